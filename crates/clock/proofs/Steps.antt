@@ -1,0 +1,64 @@
+-- The cases of each step.
+use mathlib.Core.Path.{_≡_, refl, sym, ap, _∙_}
+use mathlib.Core.Logic.{_⊎_, inl, inr}
+use mathlib.Core.Bool.{Bool, true, false, cond, _||_}
+use Prim.Native.Nat.{ℕ, _+_, _≤_, _<_, _^_}
+use native.Mathlib.Omega.{arith}
+use lib.Dec.{ltb, leb}
+use borrow.Author.Tests.{lt-ltb, le-ltb, le-leb, lt-leb, ltb-true, ltb-false, leb-true, leb-false}
+use Rattle.wire.proofs.Tests.{test, clash}
+use Rattle.entry.specs.Order.{stampBelow}
+use Rattle.entry.proofs.Order.{stamp-order-by-field}
+use Rattle.clock.specs.declared.Clock.{Clock}
+use Rattle.clock.specs.Clock.{Stepped, next, refused, stampOf, later, raise, withSkew, sendStep, receiveInRange, receiveStep}
+
+module _ (c : Clock) (now : ℕ) where
+  pub send-bad-now : 2 ^ 48 ≤ now → refused 9 ≡ sendStep c now
+  unfolding sendStep
+  send-bad-now h = rw (le-leb (2 ^ 48) now h)
+
+  module _ (n : now < 2 ^ 48) where
+    pub send-bad-clock : 2 ^ 48 ≤ c .phys → refused 9 ≡ sendStep c now
+    unfolding sendStep
+    send-bad-clock h = rw (lt-leb (2 ^ 48) now n, le-leb (2 ^ 48) (c .phys) h)
+
+    module _ (p : c .phys < 2 ^ 48) where
+      pub send-later : c .phys < now → next (record { phys = now; logical = 0; node = c .node; skew = c .skew }) ≡ sendStep c now
+      unfolding sendStep
+      send-later h = rw (lt-leb (2 ^ 48) now n, lt-leb (2 ^ 48) (c .phys) p, lt-ltb (c .phys) now h)
+
+      pub send-raised : now ≤ c .phys → sendStep c now ≡ raise c (c .phys) (c .logical)
+      unfolding sendStep
+      send-raised h = rw (lt-leb (2 ^ 48) now n, lt-leb (2 ^ 48) (c .phys) p, le-ltb (c .phys) now h)
+
+module _ (c : Clock) (p l now : ℕ) where
+  pub receive-bad-now : 2 ^ 48 ≤ now → refused 9 ≡ receiveStep c p l now
+  unfolding receiveStep
+  receive-bad-now h = rw (le-leb (2 ^ 48) now h)
+
+  module _ (n : now < 2 ^ 48) where
+    pub receive-bad-clock : 2 ^ 48 ≤ c .phys → refused 9 ≡ receiveStep c p l now
+    unfolding receiveStep
+    receive-bad-clock h = rw (lt-leb (2 ^ 48) now n, le-leb (2 ^ 48) (c .phys) h)
+
+    module _ (q : c .phys < 2 ^ 48) where
+      pub receive-bad-phys : 2 ^ 48 ≤ p → refused 9 ≡ receiveStep c p l now
+      unfolding receiveStep
+      receive-bad-phys h = rw (lt-leb (2 ^ 48) now n, lt-leb (2 ^ 48) (c .phys) q, le-leb (2 ^ 48) p h)
+
+      pub receive-in-range : p < 2 ^ 48 → receiveStep c p l now ≡ receiveInRange c p l now
+      unfolding receiveStep
+      receive-in-range h = rw (lt-leb (2 ^ 48) now n, lt-leb (2 ^ 48) (c .phys) q, lt-leb (2 ^ 48) p h)
+
+  pub far-ahead : now + 2000 < p → receiveInRange c p l now ≡ raise (withSkew c) (later (c .phys) now) (c .logical)
+  unfolding receiveInRange
+  far-ahead h = rw (lt-ltb (now + 2000) p h)
+
+  module _ (w : p ≤ now + 2000) where
+    pub ahead : c .phys < p → receiveInRange c p l now ≡ raise c p l
+    unfolding receiveInRange
+    ahead h = rw (le-ltb (now + 2000) p w, lt-ltb (c .phys) p h)
+
+    pub not-ahead : p ≤ c .phys → receiveInRange c p l now ≡ raise c (c .phys) (c .logical)
+    unfolding receiveInRange
+    not-ahead h = rw (le-ltb (now + 2000) p w, le-ltb (c .phys) p h)

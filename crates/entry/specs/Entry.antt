@@ -1,0 +1,44 @@
+-- An entry, when it is acceptable, and which of two entries of a key wins.
+use Prim.Native.Nat.{ℕ, _^_}
+use mathlib.Core.Bool.{Bool, cond, _&&_, _||_}
+use mathlib.Core.Path.{_≡_}
+use mathlib.Core.List.{List}
+use lib.ListN.{length}
+use lib.Dec.{ltb, leb, eqb}
+use Rattle.entry.specs.declared.Stamp.{Stamp}
+use Rattle.entry.specs.Key.{badKey}
+use Rattle.entry.specs.Order.{stampBelow}
+
+-- the flag is 0 for an active entry and 1 for a tombstone
+pub record Entry : Type 0 where
+  pub key : List ℕ
+  pub value : List ℕ
+  pub flag : ℕ
+  pub stamp : Stamp
+
+abbrev pub entryOf : List ℕ → List ℕ → ℕ → Stamp → Entry
+entryOf k v f s = record { key = k; value = v; flag = f; stamp = s }
+
+-- the flag is 0 or 1, and a tombstone has no value
+unfoldable pub badFlag : Entry → Bool
+badFlag e = ltb 1 (e .flag) || (eqb (e .flag) 1 && ltb 0 (length (e .value)))
+
+-- the first of an offer's checks 9, 1, 2 and 17 that an entry fails, or 0 if it is acceptable
+unfoldable pub refusalOf : Entry → ℕ
+refusalOf e =
+    cond (leb (2 ^ 48) (e .stamp .phys)) 9
+    (cond (badKey (e .key)) 1
+    (cond (ltb 512 (length (e .value))) 2
+    (cond (badFlag e) 17
+    0)))
+
+abbrev pub Acceptable : Entry → Type 0
+Acceptable e = refusalOf e ≡ 0
+
+-- the one definition of which of two entries of a key wins: the one with the stamp above
+unfoldable pub beats : Entry → Entry → Bool
+beats e h = stampBelow (h .stamp) (e .stamp)
+
+-- equal key and stamp mean equal entry
+abbrev pub Consistent : Entry → Entry → Type 0
+Consistent d e = d .key ≡ e .key → d .stamp ≡ e .stamp → d ≡ e

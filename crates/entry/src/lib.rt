@@ -1,0 +1,158 @@
+// What every part of the store shares: the refusal numbers, the limits, the key rule, stamps, and when an entry is acceptable.
+use wire::starts_with;
+ghost use mathlib.Core.Path.{_≡_};
+ghost use mathlib.Core.Bool.{not};
+ghost use Rattle.entry.specs.Refusal.{number};
+ghost use Rattle.entry.specs.Key.{reserved, badKey};
+ghost use Rattle.entry.specs.Order.{stampBelow};
+ghost use Rattle.entry.specs.Entry.{entryOf, refusalOf};
+ghost use Rattle.entry.specs.Acceptance.{refusalNumber};
+
+// The longest key and value, in bytes.
+pub const MAX_KEY: usize = 64;
+
+pub const MAX_VALUE: usize = 512;
+// Times are milliseconds below this, 2^48.
+pub const TIME_LIMIT: u64 = 281_474_976_710_656;
+// An entry's flag.
+pub const ACTIVE: u8 = 0;
+
+pub const TOMBSTONE: u8 = 1;
+
+// Why a call is refused, a case for each number.
+pub enum Refusal {
+    BadKey,
+    ValueTooLarge,
+    BadFrame,
+    NoRoom,
+    BadStore,
+    StoreFull,
+    Overtaken,
+    ClockSpent,
+    BadTime,
+    TooFew,
+    UnknownPeer,
+    Stale,
+    TableFull,
+    PeerKnown,
+    // SELF: an event, other than adding, about the own id
+    OwnPeer,
+    BadRing,
+    BadArgument,
+}
+
+impl Refusal {
+    pub fn number(self) -> u8
+        ensures { λ r. ⌜ r ≡ number self ⌝ }
+    {
+        match self {
+            Refusal::BadKey => 1,
+            Refusal::ValueTooLarge => 2,
+            Refusal::BadFrame => 3,
+            Refusal::NoRoom => 4,
+            Refusal::BadStore => 5,
+            Refusal::StoreFull => 6,
+            Refusal::Overtaken => 7,
+            Refusal::ClockSpent => 8,
+            Refusal::BadTime => 9,
+            Refusal::TooFew => 10,
+            Refusal::UnknownPeer => 11,
+            Refusal::Stale => 12,
+            Refusal::TableFull => 13,
+            Refusal::PeerKnown => 14,
+            Refusal::OwnPeer => 15,
+            Refusal::BadRing => 16,
+            Refusal::BadArgument => 17,
+        }
+    }
+}
+
+// When and where an entry was written: a hybrid logical time and the node.
+pub struct Stamp {
+    pub phys: u64,
+    pub logical: u16,
+    pub node: u8,
+}
+
+impl Stamp {
+    pub const LEAST: Stamp = Stamp {
+        phys: 0,
+        logical: 0,
+        node: 0,
+    };
+
+    pub fn is_below(self, other: Stamp) -> bool
+        ensures { λ r. ⌜ r ≡ stampBelow self other ⌝ }
+    {
+        if self.phys < other.phys {
+            return true;
+        }
+        if self.phys != other.phys {
+            return false;
+        }
+        if self.logical < other.logical {
+            return true;
+        }
+        if self.logical != other.logical {
+            return false;
+        }
+        self.node < other.node
+    }
+}
+
+// Whether an entry passes the checks that an offer makes of the entry alone.
+pub enum Acceptance {
+    Acceptable,
+    Refused(Refusal),
+}
+
+fn is_reserved(key: &[u8]) -> bool
+    ensures { λ r. ⌜ r ≡ reserved (now (key .entry)) ⌝ }
+{
+    if starts_with(key, b"_sys:") {
+        return true;
+    }
+    if starts_with(key, b"_ring:") {
+        return true;
+    }
+    if starts_with(key, b"_hint:") {
+        return true;
+    }
+    starts_with(key, b"_gossip:")
+}
+
+pub fn is_acceptable_key(key: &[u8]) -> bool
+    ensures { λ r. ⌜ r ≡ not (badKey (now (key .entry))) ⌝ }
+{
+    if key.len() == 0 {
+        return false;
+    }
+    if MAX_KEY < key.len() {
+        return false;
+    }
+    !is_reserved(key)
+}
+
+// The first of an offer's checks 9, 1, 2 and 17 that an entry fails.
+pub fn judge(key: &[u8], value: &[u8], flag: u8, stamp: Stamp) -> Acceptance
+    ensures { λ r. ⌜ refusalNumber r ≡ refusalOf (entryOf (now (key .entry)) (now (value .entry)) flag stamp) ⌝ }
+{
+    if TIME_LIMIT <= stamp.phys {
+        return Acceptance::Refused(Refusal::BadTime);
+    }
+    if !is_acceptable_key(key) {
+        return Acceptance::Refused(Refusal::BadKey);
+    }
+    if MAX_VALUE < value.len() {
+        return Acceptance::Refused(Refusal::ValueTooLarge);
+    }
+    if TOMBSTONE < flag {
+        return Acceptance::Refused(Refusal::BadArgument);
+    }
+    if flag == TOMBSTONE {
+        if 0 < value.len() {
+            return Acceptance::Refused(Refusal::BadArgument);
+        }
+    }
+    Acceptance::Acceptable
+}

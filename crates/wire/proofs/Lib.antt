@@ -1,0 +1,5 @@
+pub mod Tests
+pub mod Number
+pub mod Fill
+pub mod Order
+pub mod Writing
