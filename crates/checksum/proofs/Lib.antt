@@ -1,0 +1,8 @@
+pub mod Xor
+pub mod Linear
+pub mod Words
+pub mod Loops
+pub mod Rows
+pub mod Bounds
+pub mod ByTable
+pub mod Product

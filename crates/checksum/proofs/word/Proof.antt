@@ -1,0 +1,41 @@
+use borrow.Author.Needs.{needs}
+use Rattle.checksum.proofs.Words.{eight-bytes, rest}
+use Rattle.checksum.proofs.word.Statement.{statement}
+use Rattle.checksum.proofs.word.Tie as tie
+
+half-requires : tie.Need-half-requires
+half-requires c κs = search needs
+
+sub-half : tie.Need-sub-half
+sub-half c = search needs
+
+part-half-start : tie.Need-part-half-start
+part-half-start c = search needs
+
+part-half-end : tie.Need-part-half-end
+part-half-end c = search needs
+
+half-requires-2 : tie.Need-half-requires-2
+half-requires-2 c κs = search needs
+
+mul-result : tie.Need-mul-result
+mul-result c = search needs
+
+add-result : tie.Need-add-result
+add-result c = search needs
+
+returns : tie.Need-returns
+returns c = rw (c .half2 .ensures .0, c .before .before .half .ensures .0, rest) (eight-bytes (c .before .before .before .before .args .s .now) (c .before .before .before .before .pre))
+
+pub word-spec : {M : Type 1} → statement M
+word-spec =
+    tie.close
+    (tie.spec
+    half-requires
+    sub-half
+    part-half-start
+    part-half-end
+    half-requires-2
+    mul-result
+    add-result
+    returns)
