@@ -2,7 +2,7 @@
  *
  * Link with libcapi.a. Every function may be given any numbers and any bytes: it ends with an
  * answer or a numbered refusal, and a refusal changes nothing that was lent, except that
- * sp_handle writes an ERR frame for every refusal but SP_NO_ROOM.
+ * sp_handle writes an ERR frame for every refusal but SP_NO_ROOM and SP_BAD_ARGUMENT.
  *
  * A pointer and the length after it are a slice: the pointer is not NULL, also where the length
  * is 0, and points to as many elements as the length says. A slice that is written does not
@@ -78,8 +78,8 @@ sp_result sp_clock_receive(uint64_t phys, uint16_t logical, uint64_t now, uint64
 /* A peer table is 61 words: the number of rows, then ten rows of six words each: id, address
  * (the four bytes as one big-endian number), port, state (0 ALIVE, 1 SUSPECT, 2 DOWN),
  * incarnation, last seen. Any other number of words, or a word that its field cannot hold (8,
- * 32, 16, 8, 32 and 64 bits; the number of rows 8 bits), is SP_BAD_ARGUMENT. Rows past the
- * last one are kept as they are. */
+ * 32, 16, 8, 32 and 64 bits; the number of rows 8 bits), is SP_BAD_ARGUMENT, after
+ * SP_BAD_TIME; this holds of the rows past the last one too, which are kept as they are. */
 #define SP_PEERS_WORDS 61
 
 /* A table with the own row alone. SP_BAD_TIME, then SP_NO_ROOM for fewer than 61 words; words
@@ -138,7 +138,7 @@ sp_result sp_owners(const uint64_t *ring, size_t ring_len, const uint64_t *table
 
 /* What a frame says, in ten words: type; where the key stands in the frame and its length;
  * where the value stands and its length; flag; phys; logical; node; ERR number. A word that
- * the message has no use for is 0. */
+ * the message has no use for is 0; an empty value has a place, and the length 0. */
 #define SP_FIELDS 10
 
 /* Reads exactly one frame. SP_BAD_FRAME, SP_BAD_KEY, SP_VALUE_TOO_LARGE, then SP_NO_ROOM for
@@ -177,7 +177,8 @@ uint32_t sp_store_is_sound(const uint8_t *store, size_t store_len);
 #define SP_NEVER 2
 
 /* What the store says of a key; place[0] and place[1] become where the value stands in the
- * store and its length (0 and 0 where there is no value). Later words stay. SP_BAD_STORE,
+ * store and its length (0 and 0 where there is none; an empty value has a place). Later words
+ * stay. SP_BAD_STORE,
  * SP_BAD_KEY, then SP_NO_ROOM for fewer than two words. */
 sp_result sp_store_lookup(const uint8_t *store, size_t store_len, const uint8_t *key,
                           size_t key_len, uint64_t *place, size_t place_len);

@@ -1,5 +1,7 @@
 //! CRC32C in four ways that must agree, and the fmix32 mixer.
 
+use std::sync::atomic::{AtomicU8, Ordering};
+
 /// The Castagnoli polynomial with its bits reflected.
 const POLYNOMIAL: u32 = 0x82F6_3B78;
 
@@ -62,9 +64,35 @@ fn advance(crc: u32, bytes: &[u8]) -> u32 {
     })
 }
 
-/// CRC32C by one table of 256 entries: the one the model uses.
-pub fn crc32c(bytes: &[u8]) -> u32 {
+/// CRC32C by one table of 256 entries.
+pub fn crc32c_table(bytes: &[u8]) -> u32 {
     !advance(u32::MAX, bytes)
+}
+
+/// The ways the model's own checksums can take.
+#[derive(Clone, Copy, Debug, PartialEq, Eq)]
+#[repr(u8)]
+pub enum Way {
+    Table,
+    Wide,
+    Cpu,
+}
+
+static WAY: AtomicU8 = AtomicU8::new(Way::Table as u8);
+
+/// Chooses the way for the whole process. The answers stay the same; only the
+/// benchmark has a use for it.
+pub fn choose(way: Way) {
+    WAY.store(way as u8, Ordering::Relaxed);
+}
+
+/// CRC32C, as the model uses it: by one table unless another way is chosen.
+pub fn crc32c(bytes: &[u8]) -> u32 {
+    match WAY.load(Ordering::Relaxed) {
+        way if way == Way::Wide as u8 => crc32c_wide(bytes),
+        way if way == Way::Cpu as u8 => crc32c_cpu(bytes).unwrap_or_else(|| crc32c_table(bytes)),
+        _ => crc32c_table(bytes),
+    }
 }
 
 /// CRC32C by sixteen tables, sixteen bytes at a time.

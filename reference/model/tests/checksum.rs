@@ -1,11 +1,13 @@
 //! Checksums and the mixer.
 
-use model::checksum::{crc32c, crc32c_bits, crc32c_cpu, crc32c_wide, fmix32};
+use model::checksum::{
+    choose, crc32c, crc32c_bits, crc32c_cpu, crc32c_table, crc32c_wide, fmix32, Way,
+};
 use model::rng::Rng;
 
 fn all_ways(bytes: &[u8], expected: u32) {
     assert_eq!(crc32c_bits(bytes), expected);
-    assert_eq!(crc32c(bytes), expected);
+    assert_eq!(crc32c_table(bytes), expected);
     assert_eq!(crc32c_wide(bytes), expected);
     if let Some(crc) = crc32c_cpu(bytes) {
         assert_eq!(crc, expected);
@@ -46,6 +48,15 @@ fn four_ways_agree_on_every_length() {
         all_ways(&bytes, crc32c_bits(&bytes));
         let offset = length.min(3);
         all_ways(&bytes[offset..], crc32c_bits(&bytes[offset..]));
+    }
+}
+
+#[test]
+fn the_chosen_way_changes_no_answer() {
+    let bytes = Rng::new(2).bytes(100);
+    for way in [Way::Wide, Way::Cpu, Way::Table] {
+        choose(way);
+        assert_eq!(crc32c(&bytes), crc32c_bits(&bytes));
     }
 }
 

@@ -1,0 +1,102 @@
+use borrow.Author.Needs.{needs}
+use borrow.Author.Tests.{not-true, not-false}
+use native.Mathlib.Omega.{arith}
+use mathlib.Core.Path.{refl, sym, _∙_}
+use Rattle.peers.specs.Row.{newRow}
+use Rattle.peers.specs.Event.{addedTable, addAnswer, afterAdd}
+use Rattle.peers.proofs.Answers.{refused-gives, done-gives, add-9, add-17, add-14, add-13, add-0}
+use Rattle.peers.proofs.PeerTable.add.Statement.{statement}
+use Rattle.peers.proofs.PeerTable.add.Tie as tie
+
+refused-requires : tie.Need-refused-requires
+refused-requires c κs = search needs
+
+returns : tie.Need-returns
+unfolding afterAdd
+returns c =
+    let a = c .before .before .args in
+    refused-gives (c .refused .result) (a .self) (addedTable (newRow (a .id) (a .address) (a .port) (a .incarnation) (a .now)) (a .self)) 9 (addAnswer (a .id) (a .now) (a .self)) (c .refused .ensures) refl
+    (add-9 (a .id) (a .now) (a .self) (c .before .if1 .taken))
+
+is-sound-requires : tie.Need-is-sound-requires
+is-sound-requires c κs = search needs
+
+refused-requires-2 : tie.Need-refused-requires-2
+refused-requires-2 c κs = search needs
+
+returns-2 : tie.Need-returns-2
+unfolding afterAdd
+returns-2 c =
+    let a = c .before .before .before .before .args in
+    refused-gives (c .refused2 .result) (a .self) (addedTable (newRow (a .id) (a .address) (a .port) (a .incarnation) (a .now)) (a .self)) 17 (addAnswer (a .id) (a .now) (a .self)) (c .refused2 .ensures) refl
+    (add-17 (a .id) (a .now) (a .self) (c .before .before .before .if1 .left) (sym (c .before .before .is-sound .ensures) ∙ not-true _ (c .before .if2 .taken)))
+
+index-from-requires : tie.Need-index-from-requires
+index-from-requires c κs = search needs
+
+row-count-requires : tie.Need-row-count-requires
+row-count-requires c κs = search needs
+
+refused-requires-3 : tie.Need-refused-requires-3
+refused-requires-3 c κs = search needs
+
+returns-3 : tie.Need-returns-3
+unfolding afterAdd
+returns-3 c =
+    let a = c .before .before .before .before .before .before .before .args in
+    refused-gives (c .refused3 .result) (a .self) (addedTable (newRow (a .id) (a .address) (a .port) (a .incarnation) (a .now)) (a .self)) 14 (addAnswer (a .id) (a .now) (a .self)) (c .refused3 .ensures) refl
+    (add-14 (a .id) (a .now) (a .self) (c .before .before .before .before .before .before .if1 .left) (sym (c .before .before .before .before .before .is-sound .ensures) ∙ not-false _ (c .before .before .before .before .if2 .left)) (omega arith))
+
+refused-requires-4 : tie.Need-refused-requires-4
+refused-requires-4 c κs = search needs
+
+returns-4 : tie.Need-returns-4
+unfolding afterAdd
+returns-4 c =
+    let a = c .before .before .before .before .before .before .before .before .args in
+    refused-gives (c .refused4 .result) (a .self) (addedTable (newRow (a .id) (a .address) (a .port) (a .incarnation) (a .now)) (a .self)) 13 (addAnswer (a .id) (a .now) (a .self)) (c .refused4 .ensures) refl
+    (add-13 (a .id) (a .now) (a .self) (c .before .before .before .before .before .before .before .if1 .left) (sym (c .before .before .before .before .before .before .is-sound .ensures) ∙ not-false _ (c .before .before .before .before .before .if2 .left)) (omega arith) (c .before .if4 .taken))
+
+new-requires : tie.Need-new-requires
+new-requires c κs = search needs
+
+cast-with-row : tie.Need-cast-with-row
+cast-with-row c = search needs
+
+with-row-requires : tie.Need-with-row-requires
+with-row-requires c κs = search needs
+
+add-table : tie.Need-add-table
+add-table c = search needs
+
+done-requires : tie.Need-done-requires
+done-requires c κs = search needs
+
+returns-5 : tie.Need-returns-5
+unfolding afterAdd addedTable
+returns-5 c =
+    let a = c .before .before .before .before .before .before .before .before .before .before .args in
+    done-gives (c .done .result) (a .self) (addedTable (newRow (a .id) (a .address) (a .port) (a .incarnation) (a .now)) (a .self)) (addAnswer (a .id) (a .now) (a .self)) (rw (c .before .with-row .ensures, c .before .before .new .ensures) at (c .done .ensures))
+    (add-0 (a .id) (a .now) (a .self) (c .before .before .before .before .before .before .before .before .before .if1 .left) (sym (c .before .before .before .before .before .before .before .before .is-sound .ensures) ∙ not-false _ (c .before .before .before .before .before .before .before .if2 .left)) (omega arith) (c .before .before .before .if4 .left))
+
+pub add-spec : {M : Type 1} → statement M
+add-spec =
+    tie.close
+    (tie.spec
+    refused-requires
+    returns
+    is-sound-requires
+    refused-requires-2
+    returns-2
+    index-from-requires
+    row-count-requires
+    refused-requires-3
+    returns-3
+    refused-requires-4
+    returns-4
+    new-requires
+    cast-with-row
+    with-row-requires
+    add-table
+    done-requires
+    returns-5)

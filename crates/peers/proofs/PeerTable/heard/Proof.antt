@@ -1,0 +1,80 @@
+use borrow.Author.Needs.{needs}
+use native.Mathlib.Omega.{arith}
+use mathlib.Core.Path.{_≡_, sym, ap, _∙_}
+use Prim.Native.Nat.{_<_}
+use Rattle.entry.specs.Refusal.{number}
+use Rattle.peers.specs.Row.{heardRow}
+use Rattle.peers.specs.Table.{onRow}
+use Rattle.peers.specs.Event.{answerNumber, withRows, reportedAnswer, heardAnswer, afterHeard}
+use Rattle.peers.proofs.Answers.{refused-gives, refusal-number, heard-is, peer-index, peer-in-array, row-gives}
+use Rattle.peers.proofs.PeerTable.heard.Statement.{statement}
+use Rattle.peers.proofs.PeerTable.heard.Tie as tie
+
+accepted : (c : tie.After-index-from) → let a = c .before .before .before .before .args in 0 ≡ reportedAnswer (a .id) 0 (a .incarnation) (a .now) (a .t1)
+accepted c = sym (ap answerNumber (c .before .enum-told .given .1)) ∙ c .before .before .before .judge .ensures
+
+below-ten : (c : tie.After-index-from) → c .index-from .result < 10
+below-ten c = let a = c .before .before .before .before .args in omega (arith, peer-in-array (a .id) 0 (a .incarnation) (a .now) (a .t1) (accepted c))
+
+judge-requires : tie.Need-judge-requires
+judge-requires c κs = search needs
+
+enum-known-answer : tie.Need-enum-known-answer
+enum-known-answer c = search needs
+
+refused-requires : tie.Need-refused-requires
+refused-requires c κs = search needs
+
+enum-told : tie.Need-enum-told
+enum-told c = search needs
+
+index-from-requires : tie.Need-index-from-requires
+index-from-requires c κs = search needs
+
+mul-row : tie.Need-mul-row
+mul-row c = omega (arith, below-ten c)
+
+element-copy-out-row : tie.Need-element-copy-out-row
+element-copy-out-row c = below-ten c
+
+heard-requires : tie.Need-heard-requires
+heard-requires c κs = search needs
+
+with-row-requires : tie.Need-with-row-requires
+with-row-requires c κs = below-ten (c .before .before)
+
+done-requires : tie.Need-done-requires
+done-requires c κs = search needs
+
+returns : tie.Need-returns
+unfolding afterHeard
+returns c =
+    let a = c .before .before .before .before .before .args in
+    let w = c .before .before .answer .given in
+    refused-gives (c .refused .result) (a .t1) (withRows (onRow (a .id) (heardRow (a .incarnation) (a .now))) (a .t1)) (number (w .0 .0)) (heardAnswer (a .id) (a .incarnation) (a .now) (a .t1)) (c .refused .ensures) (refusal-number (w .0 .0))
+    (sym (ap answerNumber (w .1)) ∙ c .before .before .before .before .judge .ensures ∙ heard-is (a .id) (a .incarnation) (a .now) (a .t1))
+
+returns-2 : tie.Need-returns-2
+unfolding afterHeard
+returns-2 c =
+    let s = c .before .before .before .before in
+    let a = s .before .before .before .before .args in
+    row-gives (c .done .result) (a .t1) (c .before .with-row .result) (c .before .before .heard .result) (a .id) (s .index-from .result) (heardAnswer (a .id) (a .incarnation) (a .now) (a .t1)) (heardRow (a .incarnation) (a .now))
+    (c .done .ensures) (c .before .with-row .ensures) (c .before .before .heard .ensures) (omega arith) (omega (arith, peer-index (a .id) 0 (a .incarnation) (a .now) (a .t1) (accepted s))) (accepted s ∙ heard-is (a .id) (a .incarnation) (a .now) (a .t1))
+
+pub heard-spec : {M : Type 1} → statement M
+heard-spec =
+    tie.close
+    (tie.spec
+    judge-requires
+    enum-known-answer
+    refused-requires
+    enum-told
+    index-from-requires
+    mul-row
+    element-copy-out-row
+    heard-requires
+    with-row-requires
+    done-requires
+    returns
+    returns-2)

@@ -1,0 +1,58 @@
+use borrow.Author.Needs.{needs}
+use borrow.Author.Tests.{not-true, not-false}
+use mathlib.Core.Path.{refl, sym, _∙_}
+use Rattle.peers.specs.Row.{tickRow}
+use Rattle.peers.specs.Table.{onOthers}
+use Rattle.peers.specs.Event.{withRows, tickAnswer, afterTick}
+use Rattle.peers.proofs.Answers.{refused-gives, done-gives, tick-9, tick-17, tick-0}
+use Rattle.peers.proofs.PeerTable.tick.Statement.{statement}
+use Rattle.peers.proofs.PeerTable.tick.Tie as tie
+
+refused-requires : tie.Need-refused-requires
+refused-requires c κs = search needs
+
+returns : tie.Need-returns
+unfolding afterTick
+returns c =
+    let a = c .before .before .args in
+    refused-gives (c .refused .result) (a .self) (withRows (onOthers (tickRow (a .now))) (a .self)) 9 (tickAnswer (a .now) (a .self)) (c .refused .ensures) refl
+    (tick-9 (a .now) (a .self) (c .before .if1 .taken))
+
+is-sound-requires : tie.Need-is-sound-requires
+is-sound-requires c κs = search needs
+
+refused-requires-2 : tie.Need-refused-requires-2
+refused-requires-2 c κs = search needs
+
+returns-2 : tie.Need-returns-2
+unfolding afterTick
+returns-2 c =
+    let a = c .before .before .before .before .args in
+    refused-gives (c .refused2 .result) (a .self) (withRows (onOthers (tickRow (a .now))) (a .self)) 17 (tickAnswer (a .now) (a .self)) (c .refused2 .ensures) refl
+    (tick-17 (a .now) (a .self) (c .before .before .before .if1 .left) (sym (c .before .before .is-sound .ensures) ∙ not-true _ (c .before .if2 .taken)))
+
+ticked-requires : tie.Need-ticked-requires
+ticked-requires c κs = search needs
+
+done-requires : tie.Need-done-requires
+done-requires c κs = search needs
+
+returns-3 : tie.Need-returns-3
+unfolding afterTick
+returns-3 c =
+    let a = c .before .before .before .before .before .args in
+    done-gives (c .done .result) (a .self) (withRows (onOthers (tickRow (a .now))) (a .self)) (tickAnswer (a .now) (a .self)) (rw (c .before .ticked .ensures) at (c .done .ensures))
+    (tick-0 (a .now) (a .self) (c .before .before .before .before .if1 .left) (sym (c .before .before .before .is-sound .ensures) ∙ not-false _ (c .before .before .if2 .left)))
+
+pub tick-spec : {M : Type 1} → statement M
+tick-spec =
+    tie.close
+    (tie.spec
+    refused-requires
+    returns
+    is-sound-requires
+    refused-requires-2
+    returns-2
+    ticked-requires
+    done-requires
+    returns-3)

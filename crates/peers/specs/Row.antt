@@ -1,0 +1,39 @@
+-- What each event makes of a row. States are 0 ALIVE, 1 SUSPECT, 2 DOWN.
+use Prim.Native.Nat.{ℕ, _-_, _^_, max}
+use mathlib.Core.Bool.{Bool, cond, _&&_}
+use lib.Dec.{ltb, leb, eqb}
+use Rattle.peers.specs.declared.Row.{Row}
+
+-- now − last seen, or 0 if now is earlier
+unfoldable pub ageAt : ℕ → ℕ → ℕ
+ageAt seen now = cond (ltb seen now) (now - seen) 0
+
+-- state and time in range
+unfoldable pub inRange : Row → Bool
+inRange r = leb (r .state) 2 && ltb (r .«last_seen») (2 ^ 48)
+
+-- ALIVE, last seen now, other fields as given
+abbrev pub newRow : ℕ → ℕ → ℕ → ℕ → ℕ → Row
+newRow i a p n now = record { id = i; address = a; port = p; state = 0; incarnation = n; «last_seen» = now }
+
+-- heard directly: ALIVE with that incarnation, last seen the later of itself and now
+unfoldable pub heardRow : ℕ → ℕ → Row → Row
+heardRow n now r = record { id = r .id; address = r .address; port = r .port; state = 0; incarnation = n; «last_seen» = max (r .«last_seen») now }
+
+-- reported: a higher incarnation is taken with its state, and if that is ALIVE, last seen is the later of itself and now;
+-- equal: the worse state stays
+unfoldable pub reportedRow : ℕ → ℕ → ℕ → Row → Row
+reportedRow s n now r =
+    cond (ltb (r .incarnation) n)
+    (record { id = r .id; address = r .address; port = r .port; state = s; incarnation = n; «last_seen» = cond (eqb s 0) (max (r .«last_seen») now) (r .«last_seen») })
+    (record { id = r .id; address = r .address; port = r .port; state = max (r .state) s; incarnation = r .incarnation; «last_seen» = r .«last_seen» })
+
+-- age 15,000 or more gives DOWN; 5,000 or more makes ALIVE SUSPECT
+unfoldable pub tickState : ℕ → ℕ → ℕ
+tickState age s =
+    cond (leb 15000 age) 2
+    (cond (leb 5000 age) (cond (eqb s 0) 1 s)
+    s)
+
+unfoldable pub tickRow : ℕ → Row → Row
+tickRow now r = record { id = r .id; address = r .address; port = r .port; state = tickState (ageAt (r .«last_seen») now) (r .state); incarnation = r .incarnation; «last_seen» = r .«last_seen» }

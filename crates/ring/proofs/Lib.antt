@@ -1,0 +1,13 @@
+pub mod Cases
+pub mod Answers
+pub mod Filter
+pub mod Elements
+pub mod Counting
+pub mod Sorting
+pub mod Scan
+pub mod Filling
+pub mod BuiltRing
+pub mod Meeting
+pub mod NodesMet
+pub mod Choosing
+pub mod OwnersFound

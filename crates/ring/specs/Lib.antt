@@ -1,0 +1,9 @@
+pub mod Answer
+pub mod Lists
+pub mod Place
+pub mod Build
+pub mod Sound
+pub mod Walk
+pub mod Owners
+pub mod Helpers
+pub mod Meaning

@@ -1,0 +1,30 @@
+//! Links `libcapi.a` from SNOWPULLEY_LIB_DIR, or else from where the
+//! repository's build leaves it.
+
+use std::env;
+use std::path::{Path, PathBuf};
+
+fn main() {
+    let dir = library_dir();
+    let archive = dir.join("libcapi.a");
+    if !archive.exists() {
+        // No failure yet: checking the code needs no library.
+        println!("cargo:warning={} is missing", archive.display());
+    }
+    println!("cargo:rerun-if-env-changed=SNOWPULLEY_LIB_DIR");
+    println!("cargo:rerun-if-changed={}", archive.display());
+    println!("cargo:rustc-link-search=native={}", dir.display());
+    println!("cargo:rustc-link-lib=static=capi");
+    // The C example's test links the same archive.
+    println!("cargo:rustc-env=CAPI_ARCHIVE={}", archive.display());
+}
+
+fn library_dir() -> PathBuf {
+    match env::var_os("SNOWPULLEY_LIB_DIR") {
+        Some(dir) => PathBuf::from(dir),
+        None => {
+            let here = env::var_os("CARGO_MANIFEST_DIR").expect("cargo sets this");
+            Path::new(&here).join("../../target/staticlib")
+        }
+    }
+}

@@ -1,0 +1,3 @@
+//! Checksums.
+
+pub use crate::raw::{crc32c, fmix32};

@@ -1,0 +1,12 @@
+//! The families.
+
+pub mod checksums;
+pub mod clock;
+pub mod frames;
+pub mod handler;
+pub mod image;
+pub mod message;
+pub mod peers;
+pub mod ring;
+pub mod store;
+pub mod table;
