@@ -10,7 +10,7 @@ use Rattle.wire.proofs.Tests.{test, clash}
 use Rattle.entry.specs.Order.{stampBelow}
 use Rattle.entry.proofs.Order.{stamp-order-by-field}
 use Rattle.clock.specs.declared.Clock.{Clock}
-use Rattle.clock.specs.Clock.{Stepped, next, refused, stampOf, later, raise, withSkew, sendStep, receiveInRange, receiveStep}
+use Rattle.clock.specs.Clock.{Stepped, next, refused, stampOf, later, raise, withSkew, badTime, sendStep, receiveInRange, receiveStep}
 
 module _ (c : Clock) (now : ℕ) where
   pub send-bad-now : 2 ^ 48 ≤ now → refused 9 ≡ sendStep c now
@@ -62,3 +62,25 @@ module _ (c : Clock) (p l now : ℕ) where
     pub not-ahead : p ≤ c .phys → receiveInRange c p l now ≡ raise c (c .phys) (c .logical)
     unfolding receiveInRange
     not-ahead h = rw (le-ltb (now + 2000) p w, le-ltb (c .phys) p h)
+
+-- ---- every refusal has a number above 0
+abbrev pub Numbered : Stepped → Type 0
+Numbered (next d) = Unit {0}
+Numbered (refused n) = 0 < n
+
+raise-numbered : (c : Clock) (p l : ℕ) → Numbered (raise c p l)
+unfolding raise
+raise-numbered c p l = elim (test (leb 65535 l)) [ inl h ↦ rw h (omega arith) | inr h ↦ rw h tt ]
+
+pub receive-numbered : (c : Clock) (p l now : ℕ) → Numbered (receiveStep c p l now)
+unfolding receiveStep receiveInRange
+receive-numbered c p l now = elim (test (badTime now || badTime (c .phys) || badTime p)) [
+  | inl h ↦ rw h (omega arith)
+  | inr h ↦ rw h (elim (test (ltb (now + 2000) p)) [
+    | inl k ↦ rw k (raise-numbered (withSkew c) (later (c .phys) now) (c .logical))
+    | inr k ↦ rw k (elim (test (ltb (c .phys) p)) [
+      | inl j ↦ rw j (raise-numbered c p l)
+      | inr j ↦ rw j (raise-numbered c (c .phys) (c .logical))
+    ])
+  ])
+]

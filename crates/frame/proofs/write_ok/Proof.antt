@@ -1,0 +1,18 @@
+use borrow.Author.Needs.{needs}
+use Rattle.frame.specs.Message.{messageRefusal, timeFault, keyFault, valueFault, argumentFault}
+use Rattle.frame.specs.Layout.{typeOf, body, frameOf}
+use Rattle.frame.proofs.write_ok.Statement.{statement}
+use Rattle.frame.proofs.write_ok.Tie as tie
+
+write-empty-requires : tie.Need-write-empty-requires
+write-empty-requires c κs = search needs
+
+same-length : tie.Need-same-length
+same-length c = search needs
+
+returns : tie.Need-returns
+unfolding messageRefusal timeFault keyFault valueFault argumentFault typeOf body frameOf
+returns c = c .before .before .write-empty .ensures
+
+pub write-ok-spec : {M : Type 1} → statement M
+write-ok-spec = tie.close (tie.spec write-empty-requires same-length returns)

@@ -1,0 +1,5 @@
+pub mod Message
+pub mod Layout
+pub mod Reading
+pub mod Writing
+pub mod Meaning
