@@ -6,7 +6,9 @@ use Prim.Native.Nat.{ℕ, _+_, _≤_, _<_}
 use native.Mathlib.Omega.{arith}
 use lib.ListN.{length, take, drop}
 use lib.Dec.{ltb, eqb}
-use borrow.Author.Tests.{lt-ltb, le-ltb, eq-eqb, ne-eqb}
+use borrow.Author.Tests.{lt-ltb, le-ltb, eq-eqb, ne-eqb, ltb-false}
+use mathlib.Core.Logic.{inl, inr}
+use Rattle.wire.proofs.Tests.{test}
 use Rattle.wire.specs.Number.{num}
 use Rattle.wire.specs.Fill.{field}
 use Rattle.wire.proofs.Fields.{num-field}
@@ -50,3 +52,26 @@ module _ (s : List ℕ) where
   pub time-read : (n : ℕ) → n ≡ num (take 8 (take 6 (drop 0 s))) → n ≡ timeIn s
   unfolding timeIn field
   time-read n e = e ∙ num-field 0 6 s (omega arith)
+
+-- a whole record lies within the bytes at hand
+pub cut-within : (s : List ℕ) (t e : ℕ) → cutOf s ≡ Record t e → (6 ≤ e) × (e ≤ length s)
+unfolding cutOf
+cut-within s t e h = elim (test (eqb (length s) 0)) [
+  | inl p ↦ not-record (let q : End ≡ Record t e = rw p at h in cc)
+  | inr p ↦ elim (test (ltb (length s) 8)) [
+    | inl q ↦ not-record (let r : Short ≡ Record t e = rw (p, q) at h in cc)
+    | inr q ↦ elim (test (ltb (lenIn s) 6 || ltb 598 (lenIn s))) [
+      | inl r ↦ not-record (let k : Broken ≡ Record t e = rw (p, q, r) at h in cc)
+      | inr r ↦ elim (test (ltb (length s) (8 + lenIn s))) [
+        | inl k ↦ not-record (let j : Short ≡ Record t e = rw (p, q, r, k) at h in cc)
+        | inr k ↦
+            let j : Record (timeIn s) (8 + lenIn s) ≡ Record t e = rw (p, q, r, k) at h in
+            let i : 8 + lenIn s ≡ e = cc in
+            (omega arith, omega (arith, ltb-false (length s) (8 + lenIn s) k))
+      ]
+    ]
+  ]
+]
+  where
+    not-record : {A : Type 0} → _≡_ {A = ℕ} 0 1 → A
+    not-record z = absurd (omega arith)

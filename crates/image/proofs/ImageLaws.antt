@@ -1,0 +1,169 @@
+-- The image: its length, what is read back from it, and what a sound store is.
+use mathlib.Core.Path.{_≡_, refl, sym, ap, ap₂, _∙_}
+use Prim.Native.Nat.{ℕ, zero, suc, _+_, _-_, _*_, _≤_, _<_}
+use mathlib.Core.List.{List, [], _∷_, _++_, append-assoc}
+use mathlib.Core.Bool.{true}
+use native.Mathlib.Omega.{arith}
+use native.Mathlib.Nat.{le-of-suc-le-suc, not-suc-le-zero}
+use lib.ListN.{length, take, drop, length-append}
+use lib.Seq.{take-at, drop-at, drop-drop}
+use borrow.Author.Tests.{eqb-true, leb-true, le-leb}
+use Rattle.wire.specs.Number.{be}
+use Rattle.wire.specs.Fill.{zeros, field}
+use Rattle.wire.proofs.Tests.{and-true}
+use Rattle.wire.proofs.Number.{length-be, num-be}
+use Rattle.wire.proofs.Fill.{length-zeros, field-here, field-past}
+use Rattle.wire.proofs.Order.{sameBytes-eq, sameBytes-refl}
+use Rattle.entry.specs.Entry.{Entry}
+use Rattle.image.specs.Image.{slotBytes, slots, header, image, slotEntry, entriesIn, slotsOf, usedOf, entriesOf, acceptable, allAcceptable, ascending, sound}
+use Rattle.image.specs.Slot.{slotAt}
+use Rattle.image.proofs.SlotLaws.{length-slot, Fit, slot-entry, fit-of}
+
+abbrev pub AllFit : List Entry → Type 0
+AllFit [] = Unit {0}
+AllFit (e ∷ es) = Fit e × AllFit es
+
+pub length-slots : (es : List Entry) → length (slots es) ≡ 596 * length es
+unfolding slots
+length-slots [] = refl
+length-slots (e ∷ es) = length-append (slotBytes e) (slots es) ∙ omega (arith, length-slot e, length-slots es)
+
+pub slots-append : (xs ys : List Entry) → slots (xs ++ ys) ≡ slots xs ++ slots ys
+unfolding slots
+slots-append [] ys = refl
+slots-append (e ∷ xs) ys = ap (λ (r : List ℕ). slotBytes e ++ r) (slots-append xs ys) ∙ sym (append-assoc (slotBytes e) (slots xs) (slots ys))
+
+pub length-header : (c u : ℕ) → length (header c u) ≡ 16
+unfolding header
+length-header c u = simp (length-append, length-be, length-zeros)
+
+pub length-image : (c : ℕ) (es : List Entry) → length es ≤ c → length (image c es) ≡ 16 + 596 * c
+unfolding image
+length-image c es h = simp (length-append, length-header, length-slots, length-zeros) (omega arith)
+
+-- bracketed to the right
+pub flat-header : (c u : ℕ) (r : List ℕ) → header c u ++ r ≡ be 2 c ++ (be 2 u ++ (be 2 596 ++ (be 2 16 ++ (zeros 8 ++ r))))
+unfolding header
+flat-header c u r = simp append-assoc
+
+pub flat-image : (c : ℕ) (es : List Entry) → image c es ≡ header c (length es) ++ (slots es ++ zeros (596 * (c - length es)))
+unfolding image
+flat-image c es = simp append-assoc
+
+-- ---- what is read back
+pub slots-of-image : (c : ℕ) (es : List Entry) → c < 65536 → slotsOf (image c es) ≡ c
+unfolding slotsOf
+slots-of-image c es h = rw (flat-image, flat-header, field-here 2 (be 2 c) _ (length-be 2 c)) (num-be 2 c h)
+
+pub used-of-image : (c : ℕ) (es : List Entry) → length es < 65536 → usedOf (image c es) ≡ length es
+unfolding usedOf
+used-of-image c es h =
+    rw (flat-image, flat-header, field-past 2 0 2 (be 2 c) _ (length-be 2 c), field-here 2 (be 2 (length es)) _ (length-be 2 _)) (num-be 2 (length es) h)
+
+module _ (e : Entry) (es : List Entry) (r : List ℕ) where
+  pub first-slot : take 596 (slots (e ∷ es) ++ r) ≡ slotBytes e
+  unfolding slots
+  first-slot = ap (take 596) (append-assoc (slotBytes e) (slots es) r) ∙ take-at (slotBytes e) (slots es ++ r) 596 (length-slot e)
+
+  pub other-slots : drop 596 (slots (e ∷ es) ++ r) ≡ slots es ++ r
+  unfolding slots
+  other-slots = ap (drop 596) (append-assoc (slotBytes e) (slots es) r) ∙ drop-at (slotBytes e) (slots es ++ r) 596 (length-slot e)
+
+entries-in : (es : List Entry) (r : List ℕ) → AllFit es → entriesIn (length es) (slots es ++ r) ≡ es
+unfolding entriesIn
+entries-in [] r f = refl
+entries-in (e ∷ es) r f =
+    ap₂ (λ (a b : List ℕ). slotEntry a ∷ entriesIn (length es) b) (first-slot e es r) (other-slots e es r)
+    ∙ ap₂ (λ (x : Entry) (xs : List Entry). x ∷ xs) (slot-entry e (f .0)) (entries-in es r (f .1))
+
+pub entries-of-image : (c : ℕ) (es : List Entry) → AllFit es → length es < 65536 → entriesOf (image c es) ≡ es
+unfolding entriesOf
+entries-of-image c es f h =
+    ap₂ entriesIn (used-of-image c es h) (ap (drop 16) (flat-image c es) ∙ drop-at (header c (length es)) _ 16 (length-header c (length es)))
+    ∙ entries-in es _ f
+
+-- ---- the used slots of any bytes
+pub length-entries-in : (n : ℕ) (s : List ℕ) → length (entriesIn n s) ≡ n
+unfolding entriesIn
+length-entries-in zero s = refl
+length-entries-in (suc n) s = ap suc (length-entries-in n (drop 596 s))
+
+pub used-is : (s : List ℕ) → length (entriesOf s) ≡ usedOf s
+unfolding entriesOf
+used-is s = length-entries-in (usedOf s) (drop 16 s)
+
+next-slot : (i : ℕ) → 596 + 596 * i ≡ 596 * suc i
+next-slot i = omega arith
+
+entry-in : (i n : ℕ) (t : List ℕ) → i < n → drop i (entriesIn n t) ≡ slotEntry (field (596 * i) 596 t) ∷ drop (suc i) (entriesIn n t)
+unfolding entriesIn field
+entry-in i zero t h = absurd (not-suc-le-zero h)
+entry-in zero (suc n) t h = refl
+entry-in (suc i) (suc n) t h =
+    entry-in i n (drop 596 t) (le-of-suc-le-suc h)
+    ∙ ap (λ (l : List ℕ). slotEntry (take 596 l) ∷ drop (suc i) (entriesIn n (drop 596 t))) (drop-drop (596 * i) 596 t ∙ ap (λ (m : ℕ). drop m t) (next-slot i))
+
+-- entry i is that of slot i
+pub entry-at : (i : ℕ) (s : List ℕ) → i < usedOf s → drop i (entriesOf s) ≡ slotEntry (slotAt i s) ∷ drop (suc i) (entriesOf s)
+unfolding entriesOf slotAt field
+entry-at i s h =
+    entry-in i (usedOf s) (drop 16 s) h
+    ∙ ap (λ (l : List ℕ). slotEntry (take 596 l) ∷ drop (suc i) (entriesIn (usedOf s) (drop 16 s))) (drop-drop (596 * i) 16 s)
+
+-- ---- a sound store
+pub record Sound (s : List ℕ) : Type 0 where
+  pub some : 1 ≤ slotsOf s
+  pub most : slotsOf s ≤ 100
+  pub room : usedOf s ≤ slotsOf s
+  pub each : allAcceptable (entriesOf s) ≡ true
+  pub order : ascending (entriesOf s) ≡ true
+  pub bytes : s ≡ image (slotsOf s) (entriesOf s)
+
+pub sound-is : (s : List ℕ) → sound s ≡ true → Sound s
+unfolding sound
+sound-is s h =
+    let t5 = and-true _ _ h in
+    let t4 = and-true _ _ (t5 .0) in
+    let t3 = and-true _ _ (t4 .0) in
+    let t2 = and-true _ _ (t3 .0) in
+    let t1 = and-true _ _ (t2 .0) in
+    record {
+      some = leb-true _ _ (t1 .0);
+      most = leb-true _ _ (t1 .1);
+      room = leb-true _ _ (t2 .1);
+      each = t3 .1;
+      order = t4 .1;
+      bytes = sameBytes-eq _ _ (t5 .1);
+    }
+
+pub is-sound : (s : List ℕ) → Sound s → sound s ≡ true
+unfolding sound
+is-sound s k = rw (le-leb _ _ (k .some), le-leb _ _ (k .most), le-leb _ _ (k .room), k .each, k .order, ← k .bytes) (sameBytes-refl s)
+
+pub sound-image : (c : ℕ) (es : List Entry) → 1 ≤ c → c ≤ 100 → length es ≤ c → AllFit es → allAcceptable es ≡ true → ascending es ≡ true → sound (image c es) ≡ true
+unfolding sound
+sound-image c es lo hi room f each order =
+    rw (slots-of-image c es (omega arith), used-of-image c es (omega arith), entries-of-image c es f (omega arith), le-leb 1 c lo, le-leb c 100 hi, le-leb (length es) c room, each, order, sameBytes-refl (image c es))
+
+-- past the header of a sound store
+pub past-header : (s : List ℕ) → Sound s → drop 16 s ≡ slots (entriesOf s) ++ zeros (596 * (slotsOf s - length (entriesOf s)))
+past-header s k = ap (drop 16) (k .bytes ∙ flat-image (slotsOf s) (entriesOf s)) ∙ drop-at (header (slotsOf s) (length (entriesOf s))) _ 16 (length-header (slotsOf s) (length (entriesOf s)))
+
+heads : (a b : Entry) (r s : List Entry) → a ∷ r ≡ b ∷ s → (a ≡ b) × (r ≡ s)
+heads a b r s h = (cc, cc)
+
+fits-in : (es : List Entry) (r : List ℕ) → allAcceptable es ≡ true → entriesIn (length es) (slots es ++ r) ≡ es → AllFit es
+unfolding entriesIn allAcceptable acceptable
+fits-in [] r a h = tt
+fits-in (e ∷ es) r a h =
+    let t = and-true (acceptable e) (allAcceptable es) a in
+    let k = heads _ _ _ _ (rw (first-slot e es r, other-slots e es r) at h) in
+    (fit-of e (eqb-true _ _ (t .0)) (k .0), fits-in es r (t .1) (k .1))
+
+-- its entries fit: their numbers were read from fields
+pub sound-fits : (s : List ℕ) → Sound s → AllFit (entriesOf s)
+unfolding entriesOf
+sound-fits s k = fits-in (entriesOf s) (zeros (596 * (slotsOf s - length (entriesOf s)))) (k .each) (ap₂ entriesIn (used-is s) (sym (past-header s k)))
+
+pub sound-length : (s : List ℕ) → Sound s → length s ≡ 16 + 596 * slotsOf s
+sound-length s k = ap length (k .bytes) ∙ length-image (slotsOf s) (entriesOf s) (omega (arith, used-is s, k .room))

@@ -1,0 +1,7 @@
+pub mod Compared
+pub mod Fields
+pub mod SlotLaws
+pub mod ImageLaws
+pub mod Sealing
+pub mod Refusals
+pub mod Soundness

@@ -1,0 +1,43 @@
+-- How soundness is checked: the header, then slot by slot.
+use mathlib.Core.Path.{_≡_}
+use Prim.Native.Nat.{ℕ, zero, suc, _+_, _*_, _^_, _≤_, _<_}
+use mathlib.Core.Bool.{Bool, true, _&&_}
+use mathlib.Core.List.{List}
+use lib.ListN.{length, take, drop}
+use lib.Dec.{leb, eqb}
+use Rattle.wire.specs.Number.{num}
+use Rattle.wire.specs.Fill.{field}
+use Rattle.wire.specs.Order.{sameBytes}
+use Rattle.image.specs.Image.{header, slotEntry, slotBytes, slotsOf, usedOf, acceptable}
+
+-- a slot is the slot of its entry: its zero fill and its checksum are right
+unfoldable pub sealed : List ℕ → Bool
+sealed s = sameBytes s (slotBytes (slotEntry s))
+
+-- a slot's entry is acceptable, and the slot is that entry's
+unfoldable pub slotSound : List ℕ → Bool
+slotSound s = acceptable (slotEntry s) && sealed s
+
+-- so for each of the first n slots
+unfoldable pub slotsSound : ℕ → List ℕ → Bool
+slotsSound zero s = true
+slotsSound (suc n) s = slotSound (take 596 s) && slotsSound n (drop 596 s)
+
+-- r is the number in the w bytes at a place
+pub record NumberAt (at w : ℕ) (s : List ℕ) (r : ℕ) : Type 0 where
+  pub is : r ≡ num (field at w s)
+  pub fits : r < 256 ^ w
+
+-- klen and vlen of a slot, within their fields
+pub record Lengths (s : List ℕ) (klen vlen : ℕ) : Type 0 where
+  pub long : length s ≡ 596
+  pub key : klen ≡ num (field 0 1 s)
+  pub value : vlen ≡ num (field 2 2 s)
+  pub key-fits : klen ≤ 64
+  pub value-fits : vlen ≤ 512
+
+-- C is 1 to 100, U at most C, the length is exact, and the header is right
+unfoldable pub shaped : List ℕ → Bool
+shaped s =
+    leb 1 (slotsOf s) && leb (slotsOf s) 100 && leb (usedOf s) (slotsOf s)
+    && eqb (length s) (16 + 596 * slotsOf s) && sameBytes (take 16 s) (header (slotsOf s) (usedOf s))

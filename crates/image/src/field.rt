@@ -1,0 +1,29 @@
+// Parts of a slice by place and width, as much of them as there is.
+use wire::get_be;
+ghost use mathlib.Core.Path.{_≡_};
+ghost use Prim.Native.Nat.{_≤_};
+ghost use Rattle.wire.specs.Fill.{field};
+ghost use Rattle.image.specs.Check.{NumberAt};
+
+// The w bytes at a place.
+pub fn part(s: &[u8], at: usize, w: usize) -> &[u8]
+    ensures { λ r. ⌜ now r ≡ field at w (now (s .entry)) ⌝ }
+{
+    let n = s.len();
+    if n <= at {
+        return &s[n..n];
+    }
+    if n - at <= w {
+        return &s[at..n];
+    }
+    let end = at + w;
+    &s[at..end]
+}
+
+// The number in the w bytes at a place.
+pub fn number(s: &[u8], at: usize, w: usize) -> u64
+    requires { ⌜ w ≤ 8 ⌝ }
+    ensures { λ r. ⌜ NumberAt at w (now (s .entry)) r ⌝ }
+{
+    get_be(part(s, at, w))
+}

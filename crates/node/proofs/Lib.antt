@@ -1,0 +1,5 @@
+pub mod Replying
+pub mod Variants
+pub mod Settling
+pub mod Serving
+pub mod Handling

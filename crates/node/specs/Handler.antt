@@ -1,0 +1,125 @@
+-- The request handler: the next store and clock, the reply buffer and the answer, for every input.
+use Prim.Native.Nat.{ℕ}
+use mathlib.Core.Bool.{Bool, cond, not, _||_}
+use mathlib.Core.List.{List, [], _++_}
+use lib.ListN.{length, drop}
+use lib.Dec.{ltb, leb, eqb}
+use Rattle.entry.specs.declared.Stamp.{Stamp}
+use Rattle.entry.specs.Entry.{Entry, entryOf}
+use Rattle.clock.specs.declared.Clock.{Clock}
+use Rattle.clock.specs.Clock.{Stepped, stampOf, badTime, sendStep, receiveStep}
+use Rattle.clock.specs.Clock as clock
+use Rattle.frame.specs.Message as message
+use Rattle.frame.specs.Layout.{frameOf}
+use Rattle.frame.specs.Reading.{Outcome, typeIn, readFrame}
+use Rattle.frame.specs.Reading as reading
+use Rattle.image.specs.Image.{sound}
+use Rattle.store.specs.Answer.{Answer}
+use Rattle.store.specs.Answer as answer
+use Rattle.store.specs.Offer.{offerAnswer, afterOffer}
+use Rattle.store.specs.Lookup.{Finding, lookupAnswer, valuePart}
+use Rattle.store.specs.Lookup as lookup
+
+-- a request that was served has a next store, a next clock and a message to reply; or it is refused with a number
+pub data Served : Type 0 where
+  done : List ℕ → Clock → message.Message → Served
+  refused : ℕ → Served
+
+-- ---- writing
+-- a local write must become the held entry: kept is OVERTAKEN, 7
+unfoldable pub localRefusal : Answer → ℕ
+localRefusal answer.stored = 0
+localRefusal answer.replaced = 0
+localRefusal answer.kept = 7
+localRefusal answer.merged = 0
+localRefusal (answer.refused n) = n
+
+-- a replicated entry may be kept
+unfoldable pub replicaRefusal : Answer → ℕ
+replicaRefusal answer.stored = 0
+replicaRefusal answer.replaced = 0
+replicaRefusal answer.kept = 0
+replicaRefusal answer.merged = 0
+replicaRefusal (answer.refused n) = n
+
+-- an entry is offered, and the clock that its step gave is kept: reply OK
+unfoldable pub offered : (Answer → ℕ) → List ℕ → Clock → Entry → Served
+offered f store next e =
+    cond (eqb (f (offerAnswer store e)) 0) (done (afterOffer store e) next message.ok) (refused (f (offerAnswer store e)))
+
+-- PUT and DEL send the clock and offer the entry with its stamp
+unfoldable pub writeLocally : List ℕ → (Stamp → Entry) → Stepped → Served
+writeLocally store e (clock.next c) = offered localRefusal store c (e (stampOf c))
+writeLocally store e (clock.refused n) = refused n
+
+-- REPL receives the stamp and offers the entry as it came
+unfoldable pub replicate : List ℕ → Entry → Stepped → Served
+replicate store e (clock.next c) = offered replicaRefusal store c e
+replicate store e (clock.refused n) = refused n
+
+-- ---- reading
+-- GET replies VALUE, or NOTFOUND for DELETED and NEVER, and moves no clock
+unfoldable pub gets : List ℕ → Clock → List ℕ → Finding → Served
+gets store c v lookup.value = done store c (message.value v)
+gets store c v lookup.deleted = done store c message.notFound
+gets store c v lookup.never = done store c message.notFound
+gets store c v (lookup.refused n) = refused n
+
+-- ---- a request
+unfoldable pub serve : List ℕ → Clock → ℕ → message.Message → Served
+serve store c now (message.put k v) = writeLocally store (entryOf k v 0) (sendStep c now)
+serve store c now (message.get k) = gets store c (valuePart store k) (lookupAnswer store k)
+serve store c now (message.del k) = writeLocally store (entryOf k [] 1) (sendStep c now)
+serve store c now (message.repl e) = replicate store e (receiveStep c (e .stamp .phys) (e .stamp .logical) now)
+serve store c now message.ok = refused 3
+serve store c now (message.value v) = refused 3
+serve store c now message.notFound = refused 3
+serve store c now (message.err n) = refused 3
+
+unfoldable pub serveOutcome : List ℕ → Clock → ℕ → Outcome → Served
+serveOutcome store c now (reading.message m) = serve store c now m
+serveOutcome store c now (reading.refused n) = refused n
+
+-- 5, 9, 3 (reply types, 16 and above, among them), 1, 2, 8, then 7 or 6
+unfoldable pub serveFrame : List ℕ → Clock → ℕ → List ℕ → Served
+serveFrame store c now frame =
+    cond (not (sound store)) (refused 5)
+    (cond (badTime now || badTime (c .phys)) (refused 9)
+    (cond (leb 16 (typeIn frame)) (refused 3)
+    (serveOutcome store c now (readFrame frame))))
+
+-- ---- the whole call
+pub record Result : Type 0 where
+  pub store : List ℕ
+  pub clock : Clock
+  pub reply : List ℕ
+  -- how many bytes of the reply were written, and the refusal's number, 0 for none
+  pub written : ℕ
+  pub refusal : ℕ
+
+-- a frame at the front of a buffer; later bytes stay
+unfoldable pub over : List ℕ → List ℕ → List ℕ
+over frame buffer = frame ++ drop (length frame) buffer
+
+-- a refusal leaves store and clock as they came, and writes an ERR frame
+unfoldable pub settle : List ℕ → Clock → List ℕ → Served → Result
+settle store c reply (done store′ c′ m) = record {
+  store = store′;
+  clock = c′;
+  reply = over (frameOf m) reply;
+  written = length (frameOf m);
+  refusal = 0;
+}
+settle store c reply (refused n) = record {
+  store = store;
+  clock = c;
+  reply = over (frameOf (message.err n)) reply;
+  written = length (frameOf (message.err n));
+  refusal = n;
+}
+
+-- 4 for a reply buffer under 600 bytes, with nothing written, and then the rest
+unfoldable pub handled : List ℕ → Clock → ℕ → List ℕ → List ℕ → Result
+handled store c now frame reply =
+    cond (ltb (length reply) 600) (record { store = store; clock = c; reply = reply; written = 0; refusal = 4 })
+    (settle store c reply (serveFrame store c now frame))

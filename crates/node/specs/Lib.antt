@@ -1,0 +1,4 @@
+pub mod Handler
+pub mod Answer
+pub mod Request
+pub mod Meaning

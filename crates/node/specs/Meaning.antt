@@ -1,0 +1,1 @@
+-- What an auditor would ask of the handler.

@@ -1,0 +1,153 @@
+-- Where a key stands among the entries held, and what offering an entry does there.
+use Prim.Native.Nat.{ℕ, suc, _+_, _≤_, _<_}
+use native.Mathlib.Omega.{arith}
+use native.Mathlib.Numerals.{add-one}
+use mathlib.Core.Path.{_≡_, refl, sym, ap, _∙_}
+use mathlib.Core.Logic.{inl, inr}
+use mathlib.Core.Bool.{Bool, true, false, cond}
+use mathlib.Core.List.{List, [], _∷_, _++_, List·Memᴰ·head as head, List·Memᴰ·tail as tail}
+use mathlib.Core.Option.{none, some, Option·none-ne-some, Option·some-injective}
+use lib.ListN.{length, take, drop, drop-of-length-le}
+use Rattle.wire.specs.Order.{sameBytes, comparison}
+use Rattle.wire.specs.declared.Comparison.{Comparison}
+use Rattle.wire.specs.declared.Comparison.the-variants as order
+use Rattle.wire.proofs.Tests.{test}
+use Rattle.entry.specs.Order.{keyBelow}
+use Rattle.entry.specs.Entry.{Entry, beats}
+use Rattle.image.proofs.Compared.{came-below, came-same, came-above}
+use Rattle.store.specs.Held.{put, putAll, find}
+use Rattle.store.specs.Unchecked.{seek, seen, isHeld, Placed, countNew}
+use Rattle.store.proofs.HeldLaws.{Above, Ascending, above-trans, above-cons, above-differ, put-ascending, find-none, find-put, length-put}
+
+-- ---- a loop that seeks a key, at entry i
+pub record Seeking (k : List ℕ) (es : List Entry) (i : ℕ) : Type 0 where
+  pub place : i + seek k (drop i es) ≡ seek k es
+  pub known : seen k (drop i es) ≡ seen k es
+
+pub seeking-none : (k : List ℕ) (es : List Entry) → Seeking k es 0
+seeking-none k es = record { place = omega arith; known = refl }
+
+module _ (k : List ℕ) (es : List Entry) (i : ℕ) (s : Seeking k es i) where
+  pub seek-end : length es ≤ i → Placed k es i false
+  unfolding seek seen isHeld
+  seek-end h =
+      let e = drop-of-length-le es h in
+      record { place = sym (omega (arith, rw e at (s .place))); known = ap isHeld (sym (ap (seen k) e) ∙ s .known) }
+
+  module _ (h : Entry) (split : drop i es ≡ h ∷ drop (suc i) es) (o : Comparison) (oe : o ≡ comparison k (h .key)) where
+    pub seek-below : o ≡ order.Below → Placed k es i false
+    unfolding seek seen isHeld
+    seek-below b =
+        let p = came-below k (h .key) (sym oe ∙ b) in
+        record { place = sym (omega (arith, rw (split, p) at (s .place))); known = ap isHeld (rw (split, p) at (s .known)) }
+
+    pub seek-same : o ≡ order.Same → Placed k es i true
+    unfolding seek seen isHeld
+    seek-same b =
+        let p = came-same k (h .key) (sym oe ∙ b) in
+        record { place = sym (omega (arith, rw (split, p .0, p .1) at (s .place))); known = ap isHeld (rw (split, p .0, p .1) at (s .known)) }
+
+    pub seek-above : o ≡ order.Above → Seeking k es (i + 1)
+    unfolding seek seen
+    seek-above b =
+        let p = came-above k (h .key) (sym oe ∙ b) in
+        record { place = rw (add-one i) (omega (arith, rw (split, p .0, p .1) at (s .place))); known = rw (add-one i) (rw (split, p .0, p .1) at (s .known)) }
+
+-- ---- a key that is not seen: the entry is put in at its place
+pub record Unseen (e : Entry) (es : List Entry) : Type 0 where
+  pub is : put e es ≡ take (seek (e .key) es) es ++ (e ∷ drop (seek (e .key) es) es)
+  pub within : seek (e .key) es ≤ length es
+
+pub put-unseen : (e : Entry) (es : List Entry) → seen (e .key) es ≡ none → Unseen e es
+unfolding put seek seen
+put-unseen e [] n = record { is = refl; within = omega arith }
+put-unseen e (h ∷ hs) n = elim (test (keyBelow (e .key) (h .key))) [
+  | inl p ↦ record { is = rw p; within = rw p (omega arith) }
+  | inr p ↦ elim (test (sameBytes (e .key) (h .key))) [
+    | inl q ↦ absurd (Option·none-ne-some h (sym (rw (p, q) at n)))
+    | inr q ↦
+        let r = put-unseen e hs (rw (p, q) at n) in
+        record { is = rw (p, q) (ap (λ (l : List Entry). h ∷ l) (r .is)); within = rw (p, q) (omega (arith, r .within)) }
+  ]
+]
+
+-- ---- a key that is seen: its entry stands at its place
+pub record There (k : List ℕ) (es : List Entry) (h : Entry) : Type 0 where
+  pub there : drop (seek k es) es ≡ h ∷ drop (suc (seek k es)) es
+  pub within : seek k es < length es
+
+pub seen-there : (k : List ℕ) (es : List Entry) (g : Entry) → seen k es ≡ some g → There k es g
+unfolding seek seen
+seen-there k [] g n = absurd (Option·none-ne-some g n)
+seen-there k (h ∷ hs) g n = elim (test (keyBelow k (h .key))) [
+  | inl p ↦ absurd (Option·none-ne-some g (rw p at n))
+  | inr p ↦ elim (test (sameBytes k (h .key))) [
+    | inl q ↦ record { there = rw (p, q) (ap (λ (x : Entry). x ∷ hs) (Option·some-injective h g (rw (p, q) at n))); within = rw (p, q) (omega arith) }
+    | inr q ↦
+        let r = seen-there k hs g (rw (p, q) at n) in
+        record { there = rw (p, q) (r .there); within = rw (p, q) (omega (arith, r .within)) }
+  ]
+]
+
+-- and it is replaced or kept
+cons-cond : (b : Bool) (x : Entry) (l m : List Entry) → x ∷ cond b l m ≡ cond b (x ∷ l) (x ∷ m)
+cons-cond true x l m = refl
+cons-cond false x l m = refl
+
+pub put-seen : (e : Entry) (es : List Entry) (g : Entry) → seen (e .key) es ≡ some g
+    → put e es ≡ cond (beats e g) (take (seek (e .key) es) es ++ (e ∷ drop (suc (seek (e .key) es)) es)) es
+unfolding put seek seen
+put-seen e [] g n = absurd (Option·none-ne-some g n)
+put-seen e (h ∷ hs) g n = elim (test (keyBelow (e .key) (h .key))) [
+  | inl p ↦ absurd (Option·none-ne-some g (rw p at n))
+  | inr p ↦ elim (test (sameBytes (e .key) (h .key))) [
+    | inl q ↦ rw (p, q, Option·some-injective h g (rw (p, q) at n))
+    | inr q ↦ rw (p, q) (ap (λ (l : List Entry). h ∷ l) (put-seen e hs g (rw (p, q) at n)) ∙ cons-cond (beats e g) h _ _)
+  ]
+]
+
+-- ---- among ascending keys the entry that is seen is the one of the key
+pub seen-find : (k : List ℕ) (es : List Entry) → Ascending es → seen k es ≡ find k es
+unfolding seen find
+seen-find k [] a = refl
+seen-find k (h ∷ hs) a = elim (test (keyBelow k (h .key))) [
+  | inl p ↦ rw p (sym (find-none k (h ∷ hs) (above-cons k h hs p (above-trans k (h .key) hs p (a .0)))))
+  | inr p ↦ elim (test (sameBytes k (h .key))) [ inl q ↦ rw (p, q) | inr q ↦ rw (p, q) (seen-find k hs (a .1)) ]
+]
+
+pub put-length : (e : Entry) (es : List Entry) → Ascending es → length (put e es) ≡ cond (isHeld (seen (e .key) es)) (length es) (suc (length es))
+put-length e es a = rw (seen-find (e .key) es a) (length-put e es a)
+
+pub put-grows : (e : Entry) (es : List Entry) → Ascending es → length es ≤ length (put e es)
+put-grows e es a = rw (put-length e es a) (elim (test (isHeld (seen (e .key) es))) [ inl p ↦ rw p (omega arith) | inr p ↦ rw p (omega arith) ])
+
+pub put-all-grows : (gs es : List Entry) → Ascending es → length es ≤ length (putAll gs es)
+unfolding putAll
+put-all-grows [] es a = omega arith
+put-all-grows (g ∷ gs) es a = omega (arith, put-grows g es a, put-all-grows gs (put g es) (put-ascending g es a))
+
+-- ---- how many entries a merge makes
+seen-put : (k : List ℕ) (g : Entry) (es : List Entry) → Ascending es → keyBelow (g .key) k ≡ true → seen k (put g es) ≡ seen k es
+seen-put k g es a h =
+    seen-find k (put g es) (put-ascending g es a) ∙ find-put k g es a
+    ∙ rw (above-differ (g .key) k h) (sym (seen-find k es a))
+
+count-put : (g : Entry) (es gs : List Entry) → Ascending es → Above (g .key) gs → countNew (put g es) gs ≡ countNew es gs
+unfolding countNew
+count-put g es [] a b = refl
+count-put g es (h ∷ gs) a b = rw (seen-put (h .key) g es a (b h (head refl)), count-put g es gs a (λ d m. b d (tail m)))
+
+pub length-put-all : (gs es : List Entry) → Ascending gs → Ascending es → length (putAll gs es) ≡ length es + countNew es gs
+unfolding putAll countNew
+length-put-all [] es b a = omega arith
+length-put-all (g ∷ gs) es b a =
+    length-put-all gs (put g es) (b .1) (put-ascending g es a) ∙ rw (count-put g es gs a (b .0), put-length g es a)
+    (elim (test (isHeld (seen (g .key) es))) [ inl p ↦ rw p (omega arith) | inr p ↦ rw p (omega arith) ])
+
+pub count-most : (es gs : List Entry) → countNew es gs ≤ length gs
+unfolding countNew
+count-most es [] = omega arith
+count-most es (g ∷ gs) = elim (test (isHeld (seen (g .key) es))) [
+  | inl p ↦ rw p (omega (arith, count-most es gs))
+  | inr p ↦ rw p (omega (arith, count-most es gs))
+]

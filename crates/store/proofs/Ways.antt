@@ -1,0 +1,214 @@
+-- Each way through the calls.
+use Prim.Native.Nat.{ℕ, suc, _+_, _-_, _*_, _≤_, _<_}
+use native.Mathlib.Omega.{arith}
+use native.Mathlib.Numerals.{add-one}
+use mathlib.Core.Path.{_≡_, sym, ap, ap₂, _∙_}
+use mathlib.Core.Bool.{Bool, true, false, cond}
+use mathlib.Core.List.{List, [], _∷_, _++_, append-nil}
+use mathlib.Core.Option.{Option, none, some}
+use lib.ListN.{length, drop, drop-of-length-le}
+use borrow.Author.Tests.{eq-eqb, ne-eqb, lt-ltb, le-ltb, le-leb, lt-leb}
+use Rattle.wire.specs.Fill.{zeros}
+use Rattle.entry.specs.declared.Refusal.{Refusal}
+use Rattle.entry.specs.declared.Acceptance.{Acceptance}
+use Rattle.entry.specs.declared.Acceptance.the-variants as acceptance
+use Rattle.entry.specs.Refusal.{number}
+use Rattle.entry.specs.Acceptance.{refusalNumber}
+use Rattle.entry.specs.Key.{badKey}
+use Rattle.entry.specs.Entry.{Entry, beats, refusalOf}
+use Rattle.image.specs.Image.{image, header, slots, slotEntry, flagIn, valueIn, slotsOf, usedOf, entriesOf, sound}
+use Rattle.image.specs.Slot.{slotAt}
+use Rattle.image.proofs.Refusals.{number-not-zero}
+use Rattle.image.proofs.ImageLaws.{entry-at, used-is}
+use Rattle.store.specs.Held.{putAll}
+use Rattle.store.specs.Answer.{Answer, stored, replaced, kept, merged, refused, isRefused}
+use Rattle.store.specs.Create.{createRefusal, freshStore, afterCreate}
+use Rattle.store.specs.Lookup.{value, deleted, never, findingFor, valueFor, lookupAnswer, valuePart}
+use Rattle.store.specs.Lookup as looking
+use Rattle.store.specs.Offer.{offerAnswer, afterOffer}
+use Rattle.store.specs.Merge.{mergeAnswer, afterMerge}
+use Rattle.store.specs.Unchecked.{seek, seen, isHeld, Placed, lookupUnchecked, valueUnchecked, replaceAt, insertAt, placeAnswer, afterPlace, placedAnswer, afterPlaced, afterAll, countNew, offerUnchecked, afterOfferUnchecked}
+use Rattle.store.proofs.HeldLaws.{none-of, some-of}
+use Rattle.store.proofs.Seeking.{seen-there, length-put-all}
+use Rattle.store.proofs.OnSound.{ordered, all-placed, accepts-held, fits-held}
+
+-- ---- a new store
+module _ (s : List ℕ) (c : ℕ) where
+  pub create-few : c < 1 → (17 ≡ createRefusal s c) × (s ≡ afterCreate s c)
+  unfolding createRefusal afterCreate
+  create-few h = (sym (rw (lt-ltb c 1 h)), sym (rw (lt-ltb c 1 h)))
+
+  module _ (lo : 1 ≤ c) where
+    pub create-many : 100 < c → (17 ≡ createRefusal s c) × (s ≡ afterCreate s c)
+    unfolding createRefusal afterCreate
+    create-many h = (sym (rw (le-ltb c 1 lo, lt-ltb 100 c h)), sym (rw (le-ltb c 1 lo, lt-ltb 100 c h)))
+
+    module _ (hi : c ≤ 100) where
+      pub create-size : (length s ≡ 16 + 596 * c → ⊥) → (4 ≡ createRefusal s c) × (s ≡ afterCreate s c)
+      unfolding createRefusal afterCreate
+      create-size h =
+          let q = ne-eqb (length s) (16 + 596 * c) h in
+          (sym (rw (le-ltb c 1 lo, le-ltb 100 c hi, q)), sym (rw (le-ltb c 1 lo, le-ltb 100 c hi, q)))
+
+      pub create-done : length s ≡ 16 + 596 * c → (t : List ℕ) → t ≡ freshStore c → (0 ≡ createRefusal s c) × (t ≡ afterCreate s c)
+      unfolding createRefusal afterCreate
+      create-done h t e =
+          let q = eq-eqb (length s) (16 + 596 * c) h in
+          (sym (rw (le-ltb c 1 lo, le-ltb 100 c hi, q)), e ∙ sym (rw (le-ltb c 1 lo, le-ltb 100 c hi, q)))
+
+pub fresh-bytes : (c n : ℕ) → n ≡ 596 * c → header c 0 ++ zeros n ≡ freshStore c
+unfolding freshStore image slots
+fresh-bytes c n e =
+    let z : n ≡ 596 * (c - 0) = omega arith in
+    ap (λ (m : ℕ). header c 0 ++ zeros m) z ∙ sym (rw append-nil)
+
+-- ---- a key sought
+first : (a b : Entry) (r s : List Entry) → a ∷ r ≡ b ∷ s → a ≡ b
+first a b r s h = cc
+
+module _ (s k : List ℕ) (at : ℕ) (held : Bool) (p : Placed k (entriesOf s) at held) where
+  pub not-seen : held ≡ false → seen k (entriesOf s) ≡ none
+  not-seen f = none-of (seen k (entriesOf s)) (sym (p .known) ∙ f)
+
+  -- the entry that is seen is that of the slot at the place
+  pub is-seen : held ≡ true → seen k (entriesOf s) ≡ some (slotEntry (slotAt at s))
+  is-seen t =
+      let (h, q) = some-of (seen k (entriesOf s)) (sym (p .known) ∙ t) in
+      let r = seen-there k (entriesOf s) h q in
+      let e : at ≡ seek k (entriesOf s) = p .place in
+      q ∙ ap {B = Option Entry} some (first h (slotEntry (slotAt at s)) _ _
+      (sym (r .there) ∙ ap (λ (i : ℕ). drop i (entriesOf s)) (sym e) ∙ entry-at at s (omega (arith, r .within, used-is s))))
+
+-- ---- a key looked up
+module _ (s k : List ℕ) where
+  pub look-bad : badKey k ≡ true → (looking.refused 1 ≡ lookupUnchecked s k) × ([] ≡ valueUnchecked s k)
+  unfolding lookupUnchecked valueUnchecked
+  look-bad b = (sym (rw b), sym (rw b))
+
+  module _ (ok : badKey k ≡ false) (at : ℕ) (held : Bool) (p : Placed k (entriesOf s) at held) where
+    pub look-never : held ≡ false → (never ≡ lookupUnchecked s k) × ([] ≡ valueUnchecked s k)
+    unfolding lookupUnchecked valueUnchecked findingFor valueFor
+    look-never f = let q = not-seen s k at held p f in (sym (rw (ok, q)), sym (rw (ok, q)))
+
+    module _ (t : held ≡ true) (flag : ℕ) (fe : flag ≡ flagIn (slotAt at s)) where
+      pub look-deleted : flag ≡ 1 → (deleted ≡ lookupUnchecked s k) × ([] ≡ valueUnchecked s k)
+      unfolding lookupUnchecked valueUnchecked findingFor valueFor slotEntry
+      look-deleted f =
+          let q = is-seen s k at held p t in
+          let e = eq-eqb (flagIn (slotAt at s)) 1 (sym fe ∙ f) in
+          (sym (rw (ok, q, e)), sym (rw (ok, q, e)))
+
+      pub look-value : (flag ≡ 1 → ⊥) → (value ≡ lookupUnchecked s k) × (valueIn (slotAt at s) ≡ valueUnchecked s k)
+      unfolding lookupUnchecked valueUnchecked findingFor valueFor slotEntry
+      look-value f =
+          let q = is-seen s k at held p t in
+          let e = ne-eqb (flagIn (slotAt at s)) 1 (λ x. f (fe ∙ x)) in
+          (sym (rw (ok, q, e)), sym (rw (ok, q, e)))
+
+  pub look-5 : sound s ≡ false → (looking.refused 5 ≡ lookupAnswer s k) × ([] ≡ valuePart s k)
+  unfolding lookupAnswer valuePart
+  look-5 h = (sym (rw h), sym (rw h))
+
+-- ---- an entry placed
+module _ (s : List ℕ) (e : Entry) (at : ℕ) (held : Bool) (p : Placed (e .key) (entriesOf s) at held) where
+  module _ (t : held ≡ true) where
+    pub place-replaced : beats e (slotEntry (slotAt at s)) ≡ true → (u : List ℕ) → u ≡ replaceAt at e s → (replaced ≡ placedAnswer s e) × (u ≡ afterPlaced s e)
+    unfolding placeAnswer afterPlace
+    place-replaced b u ue =
+        let q = is-seen s (e .key) at held p t in
+        (sym (rw (q, b)), ue ∙ ap (λ (i : ℕ). replaceAt i e s) (p .place) ∙ sym (rw (q, b)))
+
+    pub place-kept : beats e (slotEntry (slotAt at s)) ≡ false → (kept ≡ placedAnswer s e) × (s ≡ afterPlaced s e)
+    unfolding placeAnswer afterPlace
+    place-kept b = let q = is-seen s (e .key) at held p t in (sym (rw (q, b)), sym (rw (q, b)))
+
+  module _ (f : held ≡ false) where
+    pub place-full : slotsOf s ≤ usedOf s → (refused 6 ≡ placedAnswer s e) × (s ≡ afterPlaced s e)
+    unfolding placeAnswer afterPlace
+    place-full h =
+        let q = not-seen s (e .key) at held p f in
+        let l = le-leb (slotsOf s) (usedOf s) h in
+        (sym (rw (q, l)), sym (rw (q, l)))
+
+    pub place-stored : usedOf s < slotsOf s → (u : List ℕ) → u ≡ insertAt at e s → (stored ≡ placedAnswer s e) × (u ≡ afterPlaced s e)
+    unfolding placeAnswer afterPlace
+    place-stored h u ue =
+        let q = not-seen s (e .key) at held p f in
+        let l = lt-leb (slotsOf s) (usedOf s) h in
+        (sym (rw (q, l)), ue ∙ ap (λ (i : ℕ). insertAt i e s) (p .place) ∙ sym (rw (q, l)))
+
+-- ---- an entry offered
+module _ (s : List ℕ) (e : Entry) where
+  module _ (v : Acceptance) (ve : refusalNumber v ≡ refusalOf e) where
+    pub offer-refused : (r : Refusal) → v ≡ acceptance.Refused r → (refused (number r) ≡ offerUnchecked s e) × (s ≡ afterOfferUnchecked s e)
+    unfolding offerUnchecked afterOfferUnchecked
+    offer-refused r h =
+        let n : refusalOf e ≡ number r = sym ve ∙ ap refusalNumber h in
+        let q = ne-eqb (refusalOf e) 0 (λ z. number-not-zero r (sym n ∙ z)) in
+        (sym (rw (q, n)), sym (rw q))
+
+    pub offer-placed : v ≡ acceptance.Acceptable → (a : Answer) (t : List ℕ) → a ≡ placedAnswer s e → t ≡ afterPlaced s e → (a ≡ offerUnchecked s e) × (t ≡ afterOfferUnchecked s e)
+    unfolding offerUnchecked afterOfferUnchecked
+    offer-placed h a t ae te =
+        let q = eq-eqb (refusalOf e) 0 (sym ve ∙ ap refusalNumber h) in
+        (ae ∙ sym (rw q), te ∙ sym (rw q))
+
+  pub offer-5 : sound s ≡ false → (refused 5 ≡ offerAnswer s e) × (s ≡ afterOffer s e)
+  unfolding offerAnswer afterOffer isRefused
+  offer-5 h = (sym (rw h), sym (rw h))
+
+-- ---- a merge
+-- a loop that counts the giver's keys that are not held
+count-one : (t : Bool) (n d m : ℕ) → m ≡ cond t 0 1 → n + m + d ≡ n + cond t d (suc d)
+count-one true n d m e = omega arith
+count-one false n d m e = omega arith
+
+pub count-next : (hs es : List Entry) (j : ℕ) (e : Entry) → drop j es ≡ e ∷ drop (suc j) es → (t : Bool) → t ≡ isHeld (seen (e .key) hs) → (n m : ℕ) → m ≡ cond t 0 1
+    → n + m + countNew hs (drop (j + 1) es) ≡ n + countNew hs (drop j es)
+unfolding countNew
+count-next hs es j e split t te n m me = rw (split, ← te, add-one j) (count-one t n (countNew hs (drop (suc j) es)) m me)
+
+pub count-end : (hs es : List Entry) (j n c : ℕ) → length es ≤ j → n + countNew hs (drop j es) ≡ c → n ≡ c
+unfolding countNew
+count-end hs es j n c h e = sym (omega (arith, rw (drop-of-length-le es h) at e))
+
+pub one-most : (t : Bool) (m : ℕ) → m ≡ cond t 0 1 → m ≤ 1
+one-most true m e = omega arith
+one-most false m e = omega arith
+
+-- a loop that offers the giver's entries
+pub give-next : (es : List Entry) (j : ℕ) (e : Entry) → drop j es ≡ e ∷ drop (suc j) es → (s t : List ℕ) → t ≡ afterPlaced s e → afterAll (drop (j + 1) es) t ≡ afterAll (drop j es) s
+unfolding afterAll
+give-next es j e split s t te = rw (split, te, add-one j)
+
+pub give-end : (es : List Entry) (j : ℕ) (s t : List ℕ) → length es ≤ j → afterAll (drop j es) s ≡ t → s ≡ t
+unfolding afterAll
+give-end es j s t h e = rw (drop-of-length-le es h) at e
+
+module _ (r g : List ℕ) where
+  pub merge-5 : sound r ≡ false → (refused 5 ≡ mergeAnswer r g) × (r ≡ afterMerge r g)
+  unfolding mergeAnswer afterMerge isRefused
+  merge-5 h = (sym (rw h), sym (rw h))
+
+  module _ (h : sound r ≡ true) where
+    pub merge-giver-5 : sound g ≡ false → (refused 5 ≡ mergeAnswer r g) × (r ≡ afterMerge r g)
+    unfolding mergeAnswer afterMerge isRefused
+    merge-giver-5 k = (sym (rw (h, k)), sym (rw (h, k)))
+
+    module _ (k : sound g ≡ true) (c u n : ℕ) (ce : c ≡ slotsOf r) (ue : u ≡ usedOf r) (ne : n ≡ countNew (entriesOf r) (entriesOf g)) where
+      merged-length : length (putAll (entriesOf g) (entriesOf r)) ≡ u + n
+      merged-length = length-put-all (entriesOf g) (entriesOf r) (ordered g k) (ordered r h) ∙ ap₂ (λ (a b : ℕ). a + b) (used-is r ∙ sym ue) (sym ne)
+
+      pub merge-6 : c < u + n → (refused 6 ≡ mergeAnswer r g) × (r ≡ afterMerge r g)
+      unfolding mergeAnswer afterMerge isRefused
+      merge-6 f =
+          let q = lt-ltb (slotsOf r) (length (putAll (entriesOf g) (entriesOf r))) (omega (arith, merged-length)) in
+          (sym (rw (h, k, q)), sym (rw (h, k, q)))
+
+      pub merge-done : u + n ≤ c → (t : List ℕ) → t ≡ afterAll (entriesOf g) r → (merged ≡ mergeAnswer r g) × (t ≡ afterMerge r g)
+      unfolding mergeAnswer afterMerge isRefused
+      merge-done f t te =
+          let m : length (putAll (entriesOf g) (entriesOf r)) ≤ slotsOf r = omega (arith, merged-length) in
+          let q = le-ltb (slotsOf r) (length (putAll (entriesOf g) (entriesOf r))) m in
+          let a = all-placed (entriesOf g) r h (accepts-held g k) (fits-held g k) m in
+          (sym (rw (h, k, q)), te ∙ a ∙ sym (rw (h, k, q)))

@@ -1,0 +1,40 @@
+use borrow.Author.Needs.{needs}
+use borrow.Author.Tests.{not-true, not-false}
+use mathlib.Core.Path.{sym, _∙_}
+use Rattle.entry.specs.Entry.{entryOf}
+use Rattle.store.proofs.Ways.{offer-5}
+use Rattle.store.proofs.OnSound.{unchecked-on-sound}
+use Rattle.store.proofs.offer.Statement.{statement}
+use Rattle.store.proofs.offer.Tie as tie
+
+is-sound-requires : tie.Need-is-sound-requires
+is-sound-requires c κs = search needs
+
+same-length : tie.Need-same-length
+same-length c = search needs
+
+returns : tie.Need-returns
+returns c = let a = c .before .before .before .before .before .before .args in offer-5 (a .store .now) (entryOf (a .key .now) (a .value .now) (a .flag) (a .stamp)) (sym (c .before .is-sound .ensures) ∙ not-true _ (c .if1 .taken))
+
+offer-unchecked-requires : tie.Need-offer-unchecked-requires
+offer-unchecked-requires c κs = search needs
+
+same-length-2 : tie.Need-same-length-2
+same-length-2 c = search needs
+
+returns-2 : tie.Need-returns-2
+returns-2 c =
+    let a = c .before .before .before .before .before .before .before .before .before .before .args in
+    let u = unchecked-on-sound (a .store .now) (sym (c .before .before .before .before .before .is-sound .ensures) ∙ not-false _ (c .before .before .before .before .if1 .left)) in
+    (c .before .before .offer-unchecked .ensures .0 ∙ u .offer (entryOf (a .key .now) (a .value .now) (a .flag) (a .stamp)), c .before .before .offer-unchecked .ensures .1 ∙ u .after (entryOf (a .key .now) (a .value .now) (a .flag) (a .stamp)))
+
+pub offer-spec : {M : Type 1} → statement M
+offer-spec =
+    tie.close
+    (tie.spec
+    is-sound-requires
+    same-length
+    returns
+    offer-unchecked-requires
+    same-length-2
+    returns-2)

@@ -1,0 +1,93 @@
+use borrow.Author.Needs.{needs}
+use native.Mathlib.Omega.{arith}
+use mathlib.Core.Path.{ap, _∙_}
+use Prim.Native.Nat.{_-_}
+use Rattle.wire.specs.Order.{comparison}
+use Rattle.image.specs.Image.{keyIn, slotEntry, entriesOf}
+use Rattle.image.proofs.ImageLaws.{entry-at, used-is}
+use Rattle.store.proofs.Seeking.{Seeking, seeking-none, seek-end, seek-below, seek-same, seek-above}
+use Rattle.store.proofs.seek.Statement.{statement}
+use Rattle.store.proofs.seek.Tie as tie
+
+abbrev Inv-loop : tie.InvT-loop
+Inv-loop store key used i₀ i = Seeking key (entriesOf store) i
+
+abbrev μ-loop : tie.MeasureT-loop
+μ-loop store key used i₀ i = used - i
+
+used-count-requires : tie.Need-used-count-requires Inv-loop μ-loop
+used-count-requires c κs = search needs
+
+loop-holds : tie.Need-loop-holds Inv-loop μ-loop
+loop-holds c = seeking-none _ _
+
+slot-requires : tie.Need-slot-requires Inv-loop μ-loop
+slot-requires c κs = search needs
+
+slot-key-requires : tie.Need-slot-key-requires Inv-loop μ-loop
+slot-key-requires c κs = search needs
+
+compare-requires : tie.Need-compare-requires Inv-loop μ-loop
+compare-requires c κs = search needs
+
+enum-told : tie.Need-enum-told Inv-loop μ-loop
+enum-told c = search needs
+
+returns : tie.Need-returns Inv-loop μ-loop
+unfolding slotEntry
+returns c =
+    let a = c .before .before .before .before .before .before .before .before .before .before .args in
+    let i = c .before .before .before .before .before .before .loop .i in
+    seek-below (a .key .now) (entriesOf (a .store .now)) i (c .before .before .before .before .before .before .loop .inv) _ (entry-at i (a .store .now) (omega (arith, c .before .before .before .before .before .before .before .used-count .ensures .0, c .before .before .before .before .before .loop-test .taken))) _ (c .before .before .compare .ensures ∙ ap (comparison (a .key .now)) (c .before .before .before .slot-key .ensures ∙ ap keyIn (c .before .before .before .before .slot .ensures))) (c .enum-told .given .1)
+
+enum-told-2 : tie.Need-enum-told-2 Inv-loop μ-loop
+enum-told-2 c = search needs
+
+returns-2 : tie.Need-returns-2 Inv-loop μ-loop
+unfolding slotEntry
+returns-2 c =
+    let a = c .before .before .before .before .before .before .before .before .before .before .args in
+    let i = c .before .before .before .before .before .before .loop .i in
+    seek-same (a .key .now) (entriesOf (a .store .now)) i (c .before .before .before .before .before .before .loop .inv) _ (entry-at i (a .store .now) (omega (arith, c .before .before .before .before .before .before .before .used-count .ensures .0, c .before .before .before .before .before .loop-test .taken))) _ (c .before .before .compare .ensures ∙ ap (comparison (a .key .now)) (c .before .before .before .slot-key .ensures ∙ ap keyIn (c .before .before .before .before .slot .ensures))) (c .enum-told2 .given .1)
+
+enum-told-3 : tie.Need-enum-told-3 Inv-loop μ-loop
+enum-told-3 c = search needs
+
+add-i : tie.Need-add-i Inv-loop μ-loop
+add-i c = omega (arith, c .before .before .before .before .before .before .before .used-count .ensures .1, c .before .before .before .before .before .loop-test .taken)
+
+loop-less : tie.Need-loop-less Inv-loop μ-loop
+loop-less c = omega (arith, c .before .before .before .before .before .loop-test .taken)
+
+loop-again : tie.Need-loop-again Inv-loop μ-loop
+unfolding slotEntry
+loop-again c =
+    let a = c .before .before .before .before .before .before .before .before .before .before .args in
+    let i = c .before .before .before .before .before .before .loop .i in
+    seek-above (a .key .now) (entriesOf (a .store .now)) i (c .before .before .before .before .before .before .loop .inv) _ (entry-at i (a .store .now) (omega (arith, c .before .before .before .before .before .before .before .used-count .ensures .0, c .before .before .before .before .before .loop-test .taken))) _ (c .before .before .compare .ensures ∙ ap (comparison (a .key .now)) (c .before .before .before .slot-key .ensures ∙ ap keyIn (c .before .before .before .before .slot .ensures))) (c .enum-told3 .given .1)
+
+returns-3 : tie.Need-returns-3 Inv-loop μ-loop
+returns-3 c =
+    let a = c .before .before .before .before .before .args in
+    seek-end (a .key .now) (entriesOf (a .store .now)) (c .before .loop .i) (c .before .loop .inv) (omega (arith, c .before .before .used-count .ensures .0, c .loop-test .left, used-is (a .store .now)))
+
+pub seek-spec : {M : Type 1} → statement M
+seek-spec =
+    tie.close
+    (tie.spec
+    Inv-loop
+    μ-loop
+    used-count-requires
+    loop-holds
+    slot-requires
+    slot-key-requires
+    compare-requires
+    enum-told
+    returns
+    enum-told-2
+    returns-2
+    enum-told-3
+    add-i
+    loop-less
+    loop-again
+    returns-3)

@@ -1,0 +1,88 @@
+-- The delivery book: calls, answers, and what the book says of a list of calls from the calls alone, never from a store's bytes.
+use Prim.Native.Nat.{ℕ, suc, _<_}
+use mathlib.Core.Path.{_≡_}
+use mathlib.Core.Bool.{Bool, true, false, cond, not, _&&_, _||_}
+use mathlib.Core.List.{List, [], _∷_, _++_}
+use lib.ListN.{getD, set}
+use lib.Dec.{ltb, eqb}
+use Rattle.wire.specs.Order.{sameBytes}
+use Rattle.entry.specs.Entry.{Entry, beats, refusalOf}
+use Rattle.store.specs.Held.{_∈_}
+use Rattle.store.specs.Answer.{Answer, stored, replaced, kept, merged, refused, isRefused}
+
+-- a call names stores by their place
+pub data Call : Type 0 where
+  offer : (store : ℕ) → Entry → Call
+  merge : (receiver giver : ℕ) → Call
+
+-- a set of delivered entries is a list of them, in which the order and a second occurrence mean nothing
+unfoldable pub hasKey : List ℕ → List Entry → Bool
+hasKey k [] = false
+hasKey k (d ∷ ds) = sameBytes k (d .key) || hasKey k ds
+
+-- how many keys the entries have
+unfoldable pub keyCount : List Entry → ℕ
+keyCount [] = 0
+keyCount (d ∷ ds) = cond (hasKey (d .key) ds) (keyCount ds) (suc (keyCount ds))
+
+-- e beats each entry of its key
+unfoldable pub beatsAll : Entry → List Entry → Bool
+beatsAll e [] = true
+beatsAll e (d ∷ ds) = cond (sameBytes (e .key) (d .key)) (beats e d && beatsAll e ds) (beatsAll e ds)
+
+-- e was delivered, and no delivered entry of its key beats it
+abbrev pub Greatest : List Entry → Entry → Type 0
+Greatest ds e = (e ∈ ds) × ((d : Entry) → d ∈ ds → d .key ≡ e .key → beats d e ≡ false)
+
+-- an offer of e to a store of C slots to which ds were delivered
+unfoldable pub bookOffer : ℕ → List Entry → Entry → Answer
+bookOffer C ds e =
+    cond (not (eqb (refusalOf e) 0)) (refused (refusalOf e))
+    (cond (ltb C (keyCount (e ∷ ds))) (refused 6)
+    (cond (not (hasKey (e .key) ds)) stored
+    (cond (beatsAll e ds) replaced kept)))
+
+unfoldable pub bookOffered : ℕ → List Entry → Entry → List Entry
+bookOffered C ds e = cond (isRefused (bookOffer C ds e)) ds (e ∷ ds)
+
+-- a merge of a store to which gs were delivered into one of C slots to which ds were
+unfoldable pub bookMerge : ℕ → List Entry → List Entry → Answer
+bookMerge C ds gs = cond (ltb C (keyCount (gs ++ ds))) (refused 6) merged
+
+unfoldable pub bookMerged : ℕ → List Entry → List Entry → List Entry
+bookMerged C ds gs = cond (isRefused (bookMerge C ds gs)) ds (gs ++ ds)
+
+-- the set of each store
+abbrev pub Book : Type 0
+Book = List (List Entry)
+
+abbrev pub delivered : Book → ℕ → List Entry
+delivered b i = getD b i []
+
+unfoldable pub bookAnswer : ℕ → Book → Call → Answer
+bookAnswer C b (offer i e) = bookOffer C (delivered b i) e
+bookAnswer C b (merge r g) = bookMerge C (delivered b r) (delivered b g)
+
+unfoldable pub bookAfter : ℕ → Book → Call → Book
+bookAfter C b (offer i e) = set b i (bookOffered C (delivered b i) e)
+bookAfter C b (merge r g) = set b r (bookMerged C (delivered b r) (delivered b g))
+
+unfoldable pub runBook : ℕ → Book → List Call → Book
+runBook C b [] = b
+runBook C b (c ∷ cs) = runBook C (bookAfter C b c) cs
+
+unfoldable pub bookAnswers : ℕ → Book → List Call → List Answer
+bookAnswers C b [] = []
+bookAnswers C b (c ∷ cs) = bookAnswer C b c ∷ bookAnswers C (bookAfter C b c) cs
+
+-- the entries that the calls offer
+unfoldable pub offers : List Call → List Entry
+offers [] = []
+offers (offer i e ∷ cs) = e ∷ offers cs
+offers (merge r g ∷ cs) = offers cs
+
+-- the calls' stores are in range
+abbrev pub InRange : ℕ → List Call → Type 0
+InRange n [] = Unit
+InRange n (offer i e ∷ cs) = (i < n) × InRange n cs
+InRange n (merge r g ∷ cs) = (r < n) × (g < n) × InRange n cs

@@ -1,0 +1,102 @@
+-- Demand 3: stores that are offered entries and merged into one another, and what holds after every list of such calls.
+-- The calls run here are those of the code: the contracts of `create`, `offer`, `merge`, `lookup` and `value` say that they answer and leave
+-- `freshStore`, `offerAnswer`, `afterOffer`, `mergeAnswer`, `afterMerge`, `lookupAnswer` and `valuePart`, the very definitions that `answer`,
+-- `after` and the clauses below are made of.
+use Prim.Native.Nat.{ℕ, _<_, _≤_}
+use mathlib.Core.Path.{_≡_}
+use mathlib.Core.Logic.{_↔_}
+use mathlib.Core.Bool.{true, false, cond}
+use mathlib.Core.List.{List, [], _∷_, _++_}
+use lib.ListN.{getD, set, replicate}
+use lib.Dec.{eqb}
+use Rattle.entry.specs.Key.{badKey}
+use Rattle.entry.specs.Order.{stampBelow}
+use Rattle.entry.specs.Entry.{Entry, Acceptable, Consistent}
+use Rattle.image.specs.Image.{image, entriesOf, ascending}
+use Rattle.store.specs.Held.{_∈_}
+use Rattle.store.specs.Answer.{Answer, isRefused}
+use Rattle.store.specs.Create.{freshStore}
+use Rattle.store.specs.Lookup.{lookupAnswer, valuePart, value, deleted, never}
+use Rattle.store.specs.Offer.{offerAnswer, afterOffer}
+use Rattle.store.specs.Merge.{mergeAnswer, afterMerge}
+use Rattle.store.specs.Kept.{Representable}
+use Rattle.store.specs.Book.{Call, offer, merge, Book, delivered, hasKey, keyCount, Greatest, runBook, bookAnswers, offers, InRange}
+
+-- the bytes of each store
+abbrev pub World : Type 0
+World = List (List ℕ)
+
+abbrev pub store : World → ℕ → List ℕ
+store w i = getD w i []
+
+unfoldable pub answer : World → Call → Answer
+answer w (offer i e) = offerAnswer (store w i) e
+answer w (merge r g) = mergeAnswer (store w r) (store w g)
+
+unfoldable pub after : World → Call → World
+after w (offer i e) = set w i (afterOffer (store w i) e)
+after w (merge r g) = set w r (afterMerge (store w r) (store w g))
+
+unfoldable pub run : World → List Call → World
+run w [] = w
+run w (c ∷ cs) = run (after w c) cs
+
+unfoldable pub answers : World → List Call → List Answer
+answers w [] = []
+answers w (c ∷ cs) = answer w c ∷ answers (after w c) cs
+
+-- n fresh stores of C slots, to which nothing was delivered
+unfoldable pub fresh : ℕ → ℕ → World
+fresh C n = replicate n (freshStore C)
+
+unfoldable pub noneDelivered : ℕ → Book
+noneDelivered n = replicate n []
+
+-- a store after some calls on n fresh stores of C slots, and the set that the book has for it
+abbrev pub storeAfter : ℕ → ℕ → List Call → ℕ → List ℕ
+storeAfter C n calls i = store (run (fresh C n) calls) i
+
+abbrev pub setAfter : ℕ → ℕ → List Call → ℕ → List Entry
+setAfter C n calls i = delivered (runBook C (noneDelivered n) calls) i
+
+-- what holds after a list of calls on n fresh stores of C slots
+pub record DeliveryHistory (C n : ℕ) (calls : List Call) : Type 0 where
+  -- each call was answered or refused as the book says
+  pub answered : answers (fresh C n) calls ≡ bookAnswers C (noneDelivered n) calls
+  -- if every entry is acceptable and all keys together fit the slots, nothing is refused
+  pub accepted : ((e : Entry) → e ∈ offers calls → Acceptable e) → keyCount (offers calls) ≤ C
+      → (a : Answer) → a ∈ answers (fresh C n) calls → isRefused a ≡ false
+  -- a store holds the greatest of the entries of a key that were delivered to it, and nothing else
+  pub holds : (i : ℕ) → i < n → (e : Entry) → e ∈ entriesOf (storeAfter C n calls i) ↔ Greatest (setAfter C n calls i) e
+  -- and it holds one of each key
+  pub keys : (i : ℕ) → i < n → (d : Entry) → d ∈ setAfter C n calls i
+      → (e : Entry) × e ∈ entriesOf (storeAfter C n calls i) × (e .key ≡ d .key)
+  -- its bytes are the image of those entries, in key order
+  pub bytes : (i : ℕ) → i < n
+      → (ascending (entriesOf (storeAfter C n calls i)) ≡ true) × (storeAfter C n calls i ≡ image C (entriesOf (storeAfter C n calls i)))
+  -- stores to which the same set was delivered are equal, byte for byte
+  pub converge : (i j : ℕ) → i < n → j < n → ((e : Entry) → e ∈ setAfter C n calls i ↔ e ∈ setAfter C n calls j)
+      → storeAfter C n calls i ≡ storeAfter C n calls j
+  -- no call lost a held key or lowered a held stamp
+  pub monotone : (before : List Call) (c : Call) (later : List Call) → calls ≡ before ++ c ∷ later
+      → (i : ℕ) → i < n → (h : Entry) → h ∈ entriesOf (storeAfter C n before i)
+      → (g : Entry) × g ∈ entriesOf (store (after (run (fresh C n) before) c) i) × (g .key ≡ h .key) × (stampBelow (g .stamp) (h .stamp) ≡ false)
+  -- a lookup then gives the value of the greatest entry of a key, or says that it is deleted
+  pub looked : (i : ℕ) → i < n → (e : Entry) → Greatest (setAfter C n calls i) e
+      → (lookupAnswer (storeAfter C n calls i) (e .key) ≡ cond (eqb (e .flag) 1) deleted value) × (valuePart (storeAfter C n calls i) (e .key) ≡ e .value)
+  -- and says of a key that was never delivered that it was never seen
+  pub unseen : (i : ℕ) → i < n → (k : List ℕ) → badKey k ≡ false → hasKey k (setAfter C n calls i) ≡ false
+      → (lookupAnswer (storeAfter C n calls i) k ≡ never) × (valuePart (storeAfter C n calls i) k ≡ [])
+
+-- every entry that is offered is one that `offer` can be given
+abbrev pub RepresentableOffers : List Call → Type 0
+RepresentableOffers calls = (e : Entry) → e ∈ offers calls → Representable e
+
+-- equal key and stamp mean equal entry, among the acceptable entries that are offered
+abbrev pub ConsistentOffers : List Call → Type 0
+ConsistentOffers calls = (d e : Entry) → d ∈ offers calls → e ∈ offers calls → Acceptable d → Acceptable e → Consistent d e
+
+-- demand 3: for every slot count, every number of stores and every list of calls
+abbrev pub EveryDeliveryHistory : Type 0
+EveryDeliveryHistory = (C n : ℕ) (calls : List Call) → 1 ≤ C → C ≤ 100 → InRange n calls
+    → RepresentableOffers calls → ConsistentOffers calls → DeliveryHistory C n calls

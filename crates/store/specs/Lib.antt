@@ -1,0 +1,10 @@
+pub mod Held
+pub mod Answer
+pub mod Create
+pub mod Lookup
+pub mod Offer
+pub mod Merge
+pub mod Unchecked
+pub mod Kept
+pub mod Book
+pub mod History

@@ -1,0 +1,28 @@
+-- Offering an entry to a store.
+use Prim.Native.Nat.{ℕ}
+use mathlib.Core.Bool.{cond, not}
+use mathlib.Core.List.{List}
+use mathlib.Core.Option.{Option, none, some}
+use lib.ListN.{length}
+use lib.Dec.{ltb, eqb}
+use Rattle.entry.specs.Entry.{Entry, beats, refusalOf}
+use Rattle.image.specs.Image.{image, slotsOf, entriesOf, sound}
+use Rattle.store.specs.Held.{put, find}
+use Rattle.store.specs.Answer.{Answer, stored, replaced, kept, refused, isRefused}
+
+-- no held entry, it is stored; a held one that it beats, it replaces; otherwise the held one is kept
+unfoldable pub told : Entry → Option Entry → Answer
+told e none = stored
+told e (some h) = cond (beats e h) replaced kept
+
+-- 5, then 9, 1, 2, 17, then 6 if the distinct keys held after the call would exceed the slots
+unfoldable pub offerAnswer : List ℕ → Entry → Answer
+offerAnswer store e =
+    cond (not (sound store)) (refused 5)
+    (cond (not (eqb (refusalOf e) 0)) (refused (refusalOf e))
+    (cond (ltb (slotsOf store) (length (put e (entriesOf store)))) (refused 6)
+    (told e (find (e .key) (entriesOf store)))))
+
+-- a refusal changes nothing
+unfoldable pub afterOffer : List ℕ → Entry → List ℕ
+afterOffer store e = cond (isRefused (offerAnswer store e)) store (image (slotsOf store) (put e (entriesOf store)))

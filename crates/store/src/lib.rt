@@ -1,0 +1,284 @@
+// The entry store: a new store, looking a key up, offering an entry, and merging one store into another.
+mod write;
+
+use entry::Acceptance;
+use entry::Refusal;
+use entry::Stamp;
+use entry::TOMBSTONE;
+use entry::is_acceptable_key;
+use entry::judge;
+use image::is_sound;
+use image::slot;
+use image::slot_count;
+use image::slot_flag;
+use image::slot_key;
+use image::slot_stamp;
+use image::slot_value;
+use image::used_count;
+use wire::Comparison;
+use wire::compare;
+use wire::put_be;
+use write::insert;
+use write::put_header;
+use write::replace;
+ghost use mathlib.Core.Path.{_≡_};
+ghost use mathlib.Core.Bool.{cond};
+ghost use Rattle.entry.specs.Entry.{entryOf, beats};
+ghost use Rattle.image.specs.Image.{slotEntry, entriesOf};
+ghost use Rattle.store.specs.Answer.{answerOf, mergeAnswerOf};
+ghost use Rattle.store.specs.Create.{createdNumber, createRefusal, afterCreate};
+ghost use Rattle.store.specs.Lookup.{findingOf, lookupAnswer, valuePart};
+ghost use Rattle.store.specs.Offer.{offerAnswer, afterOffer};
+ghost use Rattle.store.specs.Merge.{mergeAnswer, afterMerge};
+ghost use Rattle.store.specs.Unchecked.{Placed, placedAnswer, afterPlaced, afterAll, countNew, lookupUnchecked, valueUnchecked, offerUnchecked, afterOfferUnchecked};
+
+// What became of a buffer that was to be a new store.
+pub enum Created {
+    Fresh,
+    Refused(Refusal),
+}
+
+// What a store says of a key.
+pub enum Looked {
+    Value,
+    Deleted,
+    Never,
+    Refused(Refusal),
+}
+
+// What became of an entry that was offered.
+pub enum Offered {
+    Stored,
+    Replaced,
+    Kept,
+    Refused(Refusal),
+}
+
+// What became of a merge.
+pub enum Merged {
+    Done,
+    Refused(Refusal),
+}
+
+// Where a key stands among those held, and whether it is held.
+struct Place {
+    at: usize,
+    held: bool,
+}
+
+// Makes a buffer a store of `slots` slots that holds nothing.
+pub fn create(buffer: &mut [u8], slots: usize) -> Created
+    ensures told { λ r. ⌜ createdNumber r ≡ createRefusal (now (buffer .entry)) slots ⌝ }
+    ensures left { λ _. ⌜ now (buffer .exit) ≡ afterCreate (now (buffer .entry)) slots ⌝ }
+{
+    if slots < 1 {
+        return Created::Refused(Refusal::BadArgument);
+    }
+    if 100 < slots {
+        return Created::Refused(Refusal::BadArgument);
+    }
+    let n = buffer.len();
+    if n != 16 + 596 * slots {
+        return Created::Refused(Refusal::NoRoom);
+    }
+    put_header(&mut buffer[0..16], slots);
+    put_be(&mut buffer[16..n], 0);
+    Created::Fresh
+}
+
+// Where a key stands in a store.
+fn seek(store: &[u8], key: &[u8]) -> Place
+    ensures { λ r. ⌜ Placed (now (key .entry)) (entriesOf (now (store .entry))) (r .at) (r .held) ⌝ }
+{
+    let used = used_count(store);
+    let mut i = 0;
+    while i < used {
+        let order = compare(key, slot_key(slot(store, i)));
+        match order {
+            Comparison::Below => return Place { at: i, held: false },
+            Comparison::Same => return Place { at: i, held: true },
+            Comparison::Above => i += 1,
+        }
+    }
+    Place { at: i, held: false }
+}
+
+// What a store that is known to be sound says of a key.
+pub fn lookup_unchecked(store: &[u8], key: &[u8]) -> Looked
+    ensures { λ r. ⌜ findingOf r ≡ lookupUnchecked (now (store .entry)) (now (key .entry)) ⌝ }
+{
+    if !is_acceptable_key(key) {
+        return Looked::Refused(Refusal::BadKey);
+    }
+    let place = seek(store, key);
+    if !place.held {
+        return Looked::Never;
+    }
+    let at = place.at;
+    if slot_flag(slot(store, at)) == TOMBSTONE {
+        Looked::Deleted
+    } else {
+        Looked::Value
+    }
+}
+
+// What a store says of a key.
+pub fn lookup(store: &[u8], key: &[u8]) -> Looked
+    ensures { λ r. ⌜ findingOf r ≡ lookupAnswer (now (store .entry)) (now (key .entry)) ⌝ }
+{
+    if !is_sound(store) {
+        return Looked::Refused(Refusal::BadStore);
+    }
+    lookup_unchecked(store, key)
+}
+
+// The value of a key in a store that is known to be sound, as a part of the store; empty where there is none.
+pub fn value_unchecked<'a>(store: &'a [u8], key: &[u8]) -> &'a [u8]
+    ensures { λ r. ⌜ now r ≡ valueUnchecked (now (store .entry)) (now (key .entry)) ⌝ }
+{
+    if !is_acceptable_key(key) {
+        return &store[0..0];
+    }
+    let place = seek(store, key);
+    if !place.held {
+        return &store[0..0];
+    }
+    let at = place.at;
+    if slot_flag(slot(store, at)) == TOMBSTONE {
+        return &store[0..0];
+    }
+    slot_value(slot(store, at))
+}
+
+// The value of a key, as a part of the store; empty where there is none.
+pub fn value<'a>(store: &'a [u8], key: &[u8]) -> &'a [u8]
+    ensures { λ r. ⌜ now r ≡ valuePart (now (store .entry)) (now (key .entry)) ⌝ }
+{
+    if is_sound(store) {
+        value_unchecked(store, key)
+    } else {
+        &store[0..0]
+    }
+}
+
+// Whether an entry with this stamp beats the one that a slot holds.
+fn beats_slot(slot: &[u8], key: &[u8], value: &[u8], flag: u8, stamp: Stamp) -> bool
+    ensures { λ r. ⌜ r ≡ beats (entryOf (now (key .entry)) (now (value .entry)) flag stamp) (slotEntry (now (slot .entry))) ⌝ }
+{
+    slot_stamp(slot).is_below(stamp)
+}
+
+// Offers an acceptable entry to a store.
+fn place_entry(store: &mut [u8], key: &[u8], value: &[u8], flag: u8, stamp: Stamp) -> Offered
+    ensures told { λ r. ⌜ answerOf r ≡ placedAnswer (now (store .entry)) (entryOf (now (key .entry)) (now (value .entry)) flag stamp) ⌝ }
+    ensures left { λ _. ⌜ now (store .exit) ≡ afterPlaced (now (store .entry)) (entryOf (now (key .entry)) (now (value .entry)) flag stamp) ⌝ }
+{
+    let place = seek(store, key);
+    let at = place.at;
+    if place.held {
+        if beats_slot(slot(store, at), key, value, flag, stamp) {
+            replace(store, at, key, value, flag, stamp);
+            return Offered::Replaced;
+        }
+        return Offered::Kept;
+    }
+    if slot_count(store) <= used_count(store) {
+        return Offered::Refused(Refusal::StoreFull);
+    }
+    insert(store, at, key, value, flag, stamp);
+    Offered::Stored
+}
+
+// Offers an entry to a store that is known to be sound.
+pub fn offer_unchecked(
+    store: &mut [u8],
+    key: &[u8],
+    value: &[u8],
+    flag: u8,
+    stamp: Stamp,
+) -> Offered
+    ensures told { λ r. ⌜ answerOf r ≡ offerUnchecked (now (store .entry)) (entryOf (now (key .entry)) (now (value .entry)) flag stamp) ⌝ }
+    ensures left { λ _. ⌜ now (store .exit) ≡ afterOfferUnchecked (now (store .entry)) (entryOf (now (key .entry)) (now (value .entry)) flag stamp) ⌝ }
+{
+    let verdict = judge(key, value, flag, stamp);
+    match verdict {
+        Acceptance::Refused(refusal) => Offered::Refused(refusal),
+        Acceptance::Acceptable => place_entry(store, key, value, flag, stamp),
+    }
+}
+
+// Offers an entry to a store.
+pub fn offer(store: &mut [u8], key: &[u8], value: &[u8], flag: u8, stamp: Stamp) -> Offered
+    ensures told { λ r. ⌜ answerOf r ≡ offerAnswer (now (store .entry)) (entryOf (now (key .entry)) (now (value .entry)) flag stamp) ⌝ }
+    ensures left { λ _. ⌜ now (store .exit) ≡ afterOffer (now (store .entry)) (entryOf (now (key .entry)) (now (value .entry)) flag stamp) ⌝ }
+{
+    if !is_sound(store) {
+        return Offered::Refused(Refusal::BadStore);
+    }
+    offer_unchecked(store, key, value, flag, stamp)
+}
+
+// 0 for a key that is held, 1 for one that is not.
+fn tally(held: bool) -> usize
+    ensures { λ r. ⌜ r ≡ cond held 0 1 ⌝ }
+{
+    if held { 0 } else { 1 }
+}
+
+// How many of the giver's keys the receiver does not hold.
+fn count_new(receiver: &[u8], giver: &[u8]) -> usize
+    ensures { λ r. ⌜ r ≡ countNew (entriesOf (now (receiver .entry))) (entriesOf (now (giver .entry))) ⌝ }
+{
+    let used = used_count(giver);
+    let mut n: usize = 0;
+    let mut j = 0;
+    while j < used {
+        let place = seek(receiver, slot_key(slot(giver, j)));
+        n += tally(place.held);
+        j += 1;
+    }
+    n
+}
+
+// Offers the entry of one of the giver's slots to the receiver.
+fn give(receiver: &mut [u8], slot: &[u8])
+    ensures { λ _. ⌜ now (receiver .exit) ≡ afterPlaced (now (receiver .entry)) (slotEntry (now (slot .entry))) ⌝ }
+{
+    place_entry(
+        receiver,
+        slot_key(slot),
+        slot_value(slot),
+        slot_flag(slot),
+        slot_stamp(slot),
+    );
+}
+
+// Offers each of the giver's entries to the receiver.
+fn give_all(receiver: &mut [u8], giver: &[u8])
+    ensures { λ _. ⌜ now (receiver .exit) ≡ afterAll (entriesOf (now (giver .entry))) (now (receiver .entry)) ⌝ }
+{
+    let used = used_count(giver);
+    let mut given = 0;
+    while given < used {
+        give(receiver, slot(giver, given));
+        given += 1;
+    }
+}
+
+// Merges the giver into the receiver: all of its entries, or none.
+pub fn merge(receiver: &mut [u8], giver: &[u8]) -> Merged
+    ensures told { λ r. ⌜ mergeAnswerOf r ≡ mergeAnswer (now (receiver .entry)) (now (giver .entry)) ⌝ }
+    ensures left { λ _. ⌜ now (receiver .exit) ≡ afterMerge (now (receiver .entry)) (now (giver .entry)) ⌝ }
+{
+    if !is_sound(receiver) {
+        return Merged::Refused(Refusal::BadStore);
+    }
+    if !is_sound(giver) {
+        return Merged::Refused(Refusal::BadStore);
+    }
+    if slot_count(receiver) < used_count(receiver) + count_new(receiver, giver) {
+        return Merged::Refused(Refusal::StoreFull);
+    }
+    give_all(receiver, giver);
+    Merged::Done
+}
