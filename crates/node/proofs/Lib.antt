@@ -3,3 +3,6 @@ pub mod Variants
 pub mod Settling
 pub mod Serving
 pub mod Handling
+pub mod Audit
+pub mod Telling
+pub mod WholeCalls

@@ -1,1 +1,100 @@
 -- What an auditor would ask of the handler.
+use Prim.Native.Nat.{ℕ, _^_, _≤_, _<_}
+use mathlib.Core.Path.{_≡_}
+use mathlib.Core.Bool.{true, false}
+use mathlib.Core.List.{List}
+use mathlib.Core.Option.{some}
+use lib.ListN.{length, take}
+use Rattle.wire.specs.Number.{Bytes}
+use Rattle.entry.specs.Order.{stampBelow}
+use Rattle.entry.specs.Entry.{Entry}
+use Rattle.clock.specs.declared.Clock.{Clock}
+use Rattle.frame.specs.Message.{Message, put, get, del, repl, value, notFound, err, InRange}
+use Rattle.frame.specs.Reading.{message, readFrame}
+use Rattle.image.specs.Image.{sound, entriesOf}
+use Rattle.store.specs.Held.{_∈_, find}
+use Rattle.node.specs.Handler.{Result, done, serve, settle, handled}
+
+-- a message is served, and leaves the store s′
+pub record Serves (s : List ℕ) (c : Clock) (now : ℕ) (m : Message) (s′ : List ℕ) : Type 0 where
+  pub next : Clock
+  pub says : Message
+  pub is : serve s c now m ≡ done s′ next says
+
+-- a refusal, whatever the input, leaves the store and the clock as they came
+abbrev pub RefusalChangesNothing : Type 0
+RefusalChangesNothing = (store : List ℕ) (c : Clock) (now : ℕ) (frame reply : List ℕ) → (handled store c now frame reply .refusal ≡ 0 → ⊥)
+    → (handled store c now frame reply .store ≡ store) × (handled store c now frame reply .clock ≡ c)
+
+-- a replicated entry whose stamp is not above that of the held entry of its key leaves the store as it came
+abbrev pub StaleReplicaChangesNothing : Type 0
+StaleReplicaChangesNothing = (s s′ : List ℕ) (c d : Clock) (now : ℕ) (e h : Entry) (m : Message) → sound s ≡ true
+    → find (e .key) (entriesOf s) ≡ some h → stampBelow (h .stamp) (e .stamp) ≡ false → serve s c now (repl e) ≡ done s′ d m → s′ ≡ s
+
+-- a GET after an accepted PUT of its key gives that value, at any clock and any time
+abbrev pub GetAfterPut : Type 0
+GetAfterPut = (s s′ : List ℕ) (c d c′ : Clock) (now now′ : ℕ) (k v : List ℕ) (m : Message) → sound s ≡ true → c .node < 2 ^ 8
+    → serve s c now (put k v) ≡ done s′ d m → serve s′ c′ now′ (get k) ≡ done s′ c′ (value v)
+
+-- and after an accepted DEL, NOTFOUND
+abbrev pub GetAfterDel : Type 0
+GetAfterDel = (s s′ : List ℕ) (c d c′ : Clock) (now now′ : ℕ) (k : List ℕ) (m : Message) → sound s ≡ true → c .node < 2 ^ 8
+    → serve s c now (del k) ≡ done s′ d m → serve s′ c′ now′ (get k) ≡ done s′ c′ notFound
+
+-- some entries hold one with the key of h, and a stamp that is not below
+pub record StillHeld (h : Entry) (es : List Entry) : Type 0 where
+  pub entry : Entry
+  pub held : entry ∈ es
+  pub same-key : h .key ≡ entry .key
+  pub not-lower : stampBelow (entry .stamp) (h .stamp) ≡ false
+
+-- a served request leaves a sound store, loses no held key and lowers no held stamp
+abbrev pub NeverLosesOrLowers : Type 0
+NeverLosesOrLowers = (s s′ : List ℕ) (c d : Clock) (now : ℕ) (m m′ : Message) → sound s ≡ true → c .node < 2 ^ 8 → InRange m
+    → serve s c now m ≡ done s′ d m′ → (sound s′ ≡ true) × ((h : Entry) → h ∈ entriesOf s → StillHeld h (entriesOf s′))
+
+-- the bytes written by a call read as a message; a refusal has a number from 1 to 17, and the message is its ERR
+pub record ReadsBack (x : Result) : Type 0 where
+  pub says : Message
+  pub reads : readFrame (take (x .written) (x .reply)) ≡ message says
+  pub numbered : x .refusal ≤ 17
+  pub tells : (x .refusal ≡ 0 → ⊥) → says ≡ err (x .refusal)
+
+-- every reply reads back, where the reply buffer has room
+abbrev pub ReplyReadsBack : Type 0
+ReplyReadsBack = (store : List ℕ) (c : Clock) (now : ℕ) (frame reply : List ℕ) → 600 ≤ length reply → ReadsBack (handled store c now frame reply)
+
+-- ---- the same of whole calls
+
+-- a call that is not refused serves the message that its frame reads as, on a sound store
+abbrev pub AcceptedCallServes : Type 0
+AcceptedCallServes = (s : List ℕ) (c : Clock) (now : ℕ) (frame reply : List ℕ) (m : Message) → handled s c now frame reply .refusal ≡ 0
+    → readFrame frame ≡ message m → (sound s ≡ true) × Serves s c now m (handled s c now frame reply .store)
+
+-- a stale REPL frame leaves any store as it came, whatever else is given
+abbrev pub StaleFrameChangesNothing : Type 0
+StaleFrameChangesNothing = (s : List ℕ) (c : Clock) (now : ℕ) (frame reply : List ℕ) (e h : Entry) → readFrame frame ≡ message (repl e)
+    → find (e .key) (entriesOf s) ≡ some h → stampBelow (h .stamp) (e .stamp) ≡ false → handled s c now frame reply .store ≡ s
+
+-- any call, refused or not, leaves a sound store sound, loses no held key and lowers no held stamp
+abbrev pub CallNeverLosesOrLowers : Type 0
+CallNeverLosesOrLowers = (s : List ℕ) (c : Clock) (now : ℕ) (frame reply : List ℕ) → Bytes frame → sound s ≡ true → c .node < 2 ^ 8
+    → (sound (handled s c now frame reply .store) ≡ true) × ((h : Entry) → h ∈ entriesOf s → StillHeld h (entriesOf (handled s c now frame reply .store)))
+
+-- a GET frame leaves any store and any clock as they came, whatever else is given
+abbrev pub GetFrameChangesNothing : Type 0
+GetFrameChangesNothing = (s : List ℕ) (c : Clock) (now : ℕ) (frame reply k : List ℕ) → readFrame frame ≡ message (get k)
+    → (handled s c now frame reply .store ≡ s) × (handled s c now frame reply .clock ≡ c)
+
+-- a frame that reads as m was accepted and left the store t; a frame that reads as GET k is then answered with m′, and moves neither store nor clock
+abbrev pub GetsAfter : Message → List ℕ → Message → Type 0
+GetsAfter m k m′ = (s : List ℕ) (c c′ : Clock) (now now′ : ℕ) (frame frame′ reply reply′ : List ℕ) → c .node < 2 ^ 8
+    → readFrame frame ≡ message m → handled s c now frame reply .refusal ≡ 0
+    → readFrame frame′ ≡ message (get k) → now′ < 2 ^ 48 → c′ .phys < 2 ^ 48 → 600 ≤ length reply′
+    → let t : List ℕ = handled s c now frame reply .store in handled t c′ now′ frame′ reply′ ≡ settle t c′ reply′ (done t c′ m′)
+
+abbrev pub GetFrameAfterPutFrame : Type 0
+GetFrameAfterPutFrame = (k v : List ℕ) → GetsAfter (put k v) k (value v)
+
+abbrev pub GetFrameAfterDelFrame : Type 0
+GetFrameAfterDelFrame = (k : List ℕ) → GetsAfter (del k) k notFound

@@ -1,0 +1,231 @@
+-- Every reply of the handler reads back as a message.
+use Prim.Native.Nat.{ℕ, _+_, _^_, _≤_, _<_}
+use native.Mathlib.Omega.{arith}
+use mathlib.Core.Path.{_≡_, refl, ap, _∙_}
+use mathlib.Core.Logic.{inl, inr}
+use mathlib.Core.Bool.{Bool, true, false, cond, not, _||_}
+use mathlib.Core.List.{List, []}
+use mathlib.Core.Option.{Option, none, some}
+use lib.ListN.{length, take, drop}
+use lib.Seq.{take-at}
+use lib.Dec.{ltb, leb, eqb}
+use borrow.Author.Tests.{eqb-false, le-ltb}
+use Rattle.wire.proofs.Tests.{test}
+use Rattle.entry.specs.declared.Stamp.{Stamp}
+use Rattle.entry.specs.Key.{badKey}
+use Rattle.entry.specs.Entry.{Entry, entryOf, beats, badFlag, refusalOf}
+use Rattle.clock.specs.declared.Clock.{Clock}
+use Rattle.clock.specs.Clock.{Stepped, stampOf, later, raise, withSkew, badTime, sendStep, receiveInRange, receiveStep}
+use Rattle.clock.specs.Clock as clock
+use Rattle.frame.specs.Message.{Message, messageRefusal, InRange, keyFault, valueFault}
+use Rattle.frame.specs.Message as message
+use Rattle.frame.specs.Layout.{frameOf}
+use Rattle.frame.specs.Reading.{Outcome, envelopeHolds, typeIn, bodyIn, outcomeOf, readBody, readFrame}
+use Rattle.frame.specs.Reading as reading
+use Rattle.frame.proofs.RoundTrips.{written-reads-back}
+use Rattle.image.specs.Image.{slotsOf, entriesOf, sound}
+use Rattle.store.specs.Held.{put, find}
+use Rattle.store.specs.Answer.{Answer}
+use Rattle.store.specs.Answer as answer
+use Rattle.store.specs.Offer.{told, offerAnswer}
+use Rattle.store.specs.Lookup.{Finding, findingFor, lookupAnswer, valuePart}
+use Rattle.store.specs.Lookup as lookup
+use Rattle.node.specs.Handler.{Served, done, refused, localRefusal, replicaRefusal, offered, writeLocally, replicate, gets, serve, serveOutcome, serveFrame, over, settle, handled}
+use Rattle.node.specs.Meaning.{ReadsBack, ReplyReadsBack}
+use Rattle.node.proofs.Replying.{ok-taken, not-found-taken, value-taken, err-taken}
+use Rattle.node.proofs.Serving.{value-fits}
+
+-- what holds of both branches holds of a choice between them
+pub either : {A : Type 0} (P : A → Type 0) (b : Bool) (x y : A) → P x → P y → P (cond b x y)
+either P true x y p q = p
+either P false x y p q = q
+
+-- the number of a refusal
+abbrev pub Numbered : ℕ → Type 0
+Numbered n = (0 < n) × (n ≤ 17)
+
+-- ---- the clock's refusals
+abbrev StepNumbered : Stepped → Type 0
+StepNumbered (clock.next c) = Unit {0}
+StepNumbered (clock.refused n) = Numbered n
+
+raise-numbered : (c : Clock) (p l : ℕ) → StepNumbered (raise c p l)
+unfolding raise
+raise-numbered c p l = either StepNumbered (leb 65535 l) _ _ (omega arith) tt
+
+send-numbered : (c : Clock) (now : ℕ) → StepNumbered (sendStep c now)
+unfolding sendStep
+send-numbered c now = either StepNumbered (badTime now || badTime (c .phys)) _ _ (omega arith)
+    (either StepNumbered (ltb (c .phys) now) _ _ tt (raise-numbered c (c .phys) (c .logical)))
+
+receive-numbered : (c : Clock) (p l now : ℕ) → StepNumbered (receiveStep c p l now)
+unfolding receiveStep receiveInRange
+receive-numbered c p l now = either StepNumbered (badTime now || badTime (c .phys) || badTime p) _ _ (omega arith)
+    (either StepNumbered (ltb (now + 2000) p) _ _ (raise-numbered (withSkew c) (later (c .phys) now) (c .logical))
+    (either StepNumbered (ltb (c .phys) p) _ _ (raise-numbered c p l) (raise-numbered c (c .phys) (c .logical))))
+
+-- ---- the store's refusals
+abbrev AnswerNumbered : Answer → Type 0
+AnswerNumbered answer.stored = Unit {0}
+AnswerNumbered answer.replaced = Unit {0}
+AnswerNumbered answer.kept = Unit {0}
+AnswerNumbered answer.merged = Unit {0}
+AnswerNumbered (answer.refused n) = Numbered n
+
+told-numbered : (e : Entry) (o : Option Entry) → AnswerNumbered (told e o)
+unfolding told
+told-numbered e none = tt
+told-numbered e (some h) = either AnswerNumbered (beats e h) _ _ tt tt
+
+refusal-small : (e : Entry) → refusalOf e ≤ 17
+unfolding refusalOf
+refusal-small e =
+    let P : ℕ → Type 0 = λ n. n ≤ 17 in
+    either P (leb (2 ^ 48) (e .stamp .phys)) 9 _ (omega arith)
+    (either P (badKey (e .key)) 1 _ (omega arith)
+    (either P (ltb 512 (length (e .value))) 2 _ (omega arith)
+    (either P (badFlag e) 17 0 (omega arith) (omega arith))))
+
+offer-numbered : (s : List ℕ) (e : Entry) → AnswerNumbered (offerAnswer s e)
+unfolding offerAnswer
+offer-numbered s e = either AnswerNumbered (not (sound s)) _ _ (omega arith) (elim (test (eqb (refusalOf e) 0)) [
+  | inl p ↦ rw p (either AnswerNumbered (ltb (slotsOf s) (length (put e (entriesOf s)))) _ _ (omega arith) (told-numbered e (find (e .key) (entriesOf s))))
+  | inr p ↦
+      let ne : refusalOf e ≡ 0 → ⊥ = eqb-false (refusalOf e) 0 p in
+      let n : Numbered (refusalOf e) = omega (arith, refusal-small e) in
+      rw p n
+])
+
+abbrev FindingNumbered : Finding → Type 0
+FindingNumbered lookup.value = Unit {0}
+FindingNumbered lookup.deleted = Unit {0}
+FindingNumbered lookup.never = Unit {0}
+FindingNumbered (lookup.refused n) = Numbered n
+
+finding-numbered : (o : Option Entry) → FindingNumbered (findingFor o)
+unfolding findingFor
+finding-numbered none = tt
+finding-numbered (some h) = either FindingNumbered (eqb (h .flag) 1) _ _ tt tt
+
+lookup-numbered : (s k : List ℕ) → FindingNumbered (lookupAnswer s k)
+unfolding lookupAnswer
+lookup-numbered s k = either FindingNumbered (not (sound s)) _ _ (omega arith)
+    (either FindingNumbered (badKey k) _ _ (omega arith) (finding-numbered (find k (entriesOf s))))
+
+-- ---- the reader's refusals
+abbrev OutcomeNumbered : Outcome → Type 0
+OutcomeNumbered (reading.message m) = Unit {0}
+OutcomeNumbered (reading.refused n) = Numbered n
+
+outcome-numbered : (w : Bool) (m : Message) → OutcomeNumbered (outcomeOf w m)
+unfolding outcomeOf
+outcome-numbered w m = either OutcomeNumbered w _ _
+    (either OutcomeNumbered (keyFault m) _ _ (omega arith)
+    (either OutcomeNumbered (valueFault m) _ _ (omega arith) tt))
+    (omega arith)
+
+body-numbered : (t : ℕ) (b : List ℕ) → OutcomeNumbered (readBody t b)
+unfolding readBody
+body-numbered t b =
+    either OutcomeNumbered (eqb t 1) _ _ (outcome-numbered _ _)
+    (either OutcomeNumbered (eqb t 2) _ _ (outcome-numbered _ _)
+    (either OutcomeNumbered (eqb t 3) _ _ (outcome-numbered _ _)
+    (either OutcomeNumbered (eqb t 4) _ _ (outcome-numbered _ _)
+    (either OutcomeNumbered (eqb t 16) _ _ (outcome-numbered _ _)
+    (either OutcomeNumbered (eqb t 17) _ _ (outcome-numbered _ _)
+    (either OutcomeNumbered (eqb t 18) _ _ (outcome-numbered _ _)
+    (either OutcomeNumbered (eqb t 20) _ _ (outcome-numbered _ _)
+    (omega arith))))))))
+
+read-numbered : (s : List ℕ) → OutcomeNumbered (readFrame s)
+unfolding readFrame
+read-numbered s = either OutcomeNumbered (envelopeHolds s) _ _ (body-numbered (typeIn s) (bodyIn s)) (omega arith)
+
+-- ---- a request's outcome: a message that a writer takes, or a refusal with its number
+abbrev pub Tellable : Served → Type 0
+Tellable (done s c m) = (messageRefusal m ≡ 0) × InRange m
+Tellable (refused n) = Numbered n
+
+local-numbered : (a : Answer) → AnswerNumbered a → (localRefusal a ≡ 0 → ⊥) → Numbered (localRefusal a)
+unfolding localRefusal
+local-numbered answer.stored n z = absurd (z refl)
+local-numbered answer.replaced n z = absurd (z refl)
+local-numbered answer.kept n z = omega arith
+local-numbered answer.merged n z = absurd (z refl)
+local-numbered (answer.refused j) n z = n
+
+replica-numbered : (a : Answer) → AnswerNumbered a → (replicaRefusal a ≡ 0 → ⊥) → Numbered (replicaRefusal a)
+unfolding replicaRefusal
+replica-numbered answer.stored n z = absurd (z refl)
+replica-numbered answer.replaced n z = absurd (z refl)
+replica-numbered answer.kept n z = absurd (z refl)
+replica-numbered answer.merged n z = absurd (z refl)
+replica-numbered (answer.refused j) n z = n
+
+module _ (s : List ℕ) where
+  offered-tellable : (f : Answer → ℕ) (c : Clock) (e : Entry) → ((f (offerAnswer s e) ≡ 0 → ⊥) → Numbered (f (offerAnswer s e))) → Tellable (offered f s c e)
+  unfolding offered
+  offered-tellable f c e n = elim (test (eqb (f (offerAnswer s e)) 0)) [
+    | inl p ↦ rw p (ok-taken, tt)
+    | inr p ↦ rw p (n (eqb-false (f (offerAnswer s e)) 0 p))
+  ]
+
+  write-tellable : (e : Stamp → Entry) (t : Stepped) → StepNumbered t → Tellable (writeLocally s e t)
+  unfolding writeLocally
+  write-tellable e (clock.next c) n = offered-tellable localRefusal c (e (stampOf c)) (local-numbered (offerAnswer s (e (stampOf c))) (offer-numbered s (e (stampOf c))))
+  write-tellable e (clock.refused j) n = n
+
+  replicate-tellable : (e : Entry) (t : Stepped) → StepNumbered t → Tellable (replicate s e t)
+  unfolding replicate
+  replicate-tellable e (clock.next c) n = offered-tellable replicaRefusal c e (replica-numbered (offerAnswer s e) (offer-numbered s e))
+  replicate-tellable e (clock.refused j) n = n
+
+  gets-tellable : (c : Clock) (v : List ℕ) (x : Finding) → length v ≤ 512 → FindingNumbered x → Tellable (gets s c v x)
+  unfolding gets
+  gets-tellable c v lookup.value l n = (value-taken v l, tt)
+  gets-tellable c v lookup.deleted l n = (not-found-taken, tt)
+  gets-tellable c v lookup.never l n = (not-found-taken, tt)
+  gets-tellable c v (lookup.refused j) l n = n
+
+  module _ (h : sound s ≡ true) (c : Clock) (now : ℕ) where
+    serve-tellable : (m : Message) → Tellable (serve s c now m)
+    unfolding serve
+    serve-tellable (message.put k v) = write-tellable (entryOf k v 0) (sendStep c now) (send-numbered c now)
+    serve-tellable (message.get k) = gets-tellable c (valuePart s k) (lookupAnswer s k) (value-fits s h k) (lookup-numbered s k)
+    serve-tellable (message.del k) = write-tellable (entryOf k [] 1) (sendStep c now) (send-numbered c now)
+    serve-tellable (message.repl e) =
+        replicate-tellable e (receiveStep c (e .stamp .phys) (e .stamp .logical) now) (receive-numbered c (e .stamp .phys) (e .stamp .logical) now)
+    serve-tellable message.ok = omega arith
+    serve-tellable (message.value v) = omega arith
+    serve-tellable message.notFound = omega arith
+    serve-tellable (message.err n) = omega arith
+
+    outcome-tellable : (o : Outcome) → OutcomeNumbered o → Tellable (serveOutcome s c now o)
+    unfolding serveOutcome
+    outcome-tellable (reading.message m) n = serve-tellable m
+    outcome-tellable (reading.refused j) n = n
+
+  pub frame-tellable : (c : Clock) (now : ℕ) (frame : List ℕ) → Tellable (serveFrame s c now frame)
+  unfolding serveFrame
+  frame-tellable c now frame = elim (test (sound s)) [
+    | inl h ↦ rw h
+        (either Tellable (badTime now || badTime (c .phys)) _ _ (omega arith)
+        (either Tellable (leb 16 (typeIn frame)) _ _ (omega arith)
+        (outcome-tellable h c now (readFrame frame) (read-numbered frame))))
+    | inr h ↦ rw h (omega arith)
+  ]
+
+-- ---- the whole call
+written-reads : (m : Message) (reply : List ℕ) → messageRefusal m ≡ 0 → InRange m → readFrame (take (length (frameOf m)) (over (frameOf m) reply)) ≡ reading.message m
+unfolding over
+written-reads m reply t i = ap readFrame (take-at (frameOf m) (drop (length (frameOf m)) reply) (length (frameOf m)) refl) ∙ written-reads-back m t i
+
+settled-reads : (s : List ℕ) (c : Clock) (reply : List ℕ) (x : Served) → Tellable x → ReadsBack (settle s c reply x)
+unfolding settle
+settled-reads s c reply (done s′ c′ m) t = record { says = m; reads = written-reads m reply (t .0) (t .1); numbered = omega arith; tells = λ h. absurd (h refl) }
+settled-reads s c reply (refused n) t =
+    record { says = message.err n; reads = written-reads (message.err n) reply (err-taken n (t .0) (omega arith)) tt; numbered = t .1; tells = λ h. refl }
+
+pub reply-reads-back : ReplyReadsBack
+unfolding handled
+reply-reads-back s c now frame reply room = rw (le-ltb (length reply) 600 room) (settled-reads s c reply (serveFrame s c now frame) (frame-tellable s c now frame))
