@@ -31,6 +31,8 @@ expected: tools
 	@$(TOOLS)/journal $(SAMPLE)/stdin $(SAMPLE)/stdout
 	cmp $(SAMPLE)/stdin crates/replay/stdin
 	cmp $(SAMPLE)/stdout crates/replay/stdout
+	@$(TOOLS)/points >$(SAMPLE)/points
+	cmp $(SAMPLE)/points crates/points/stdout
 
 fmt:
 	rt fmt
