@@ -2,17 +2,15 @@
 CARGO = cargo
 TOOLS = reference/target/release
 SAMPLE = target/sample
-.PHONY: run test reference expected fmt
+.PHONY: run test reference tools expected tails fmt
 
-run: tools
-	@rt check replay >target/replay.log 2>&1 || { mkdir -p target; cat target/replay.log; exit 1; }
-	@mkdir -p $(SAMPLE)
+run: target/bin/replay
 	@$(TOOLS)/journal $(SAMPLE)/journal $(SAMPLE)/expected
 	@target/bin/replay <$(SAMPLE)/journal >$(SAMPLE)/replies
 	@cmp $(SAMPLE)/expected $(SAMPLE)/replies
 	@$(TOOLS)/view $(SAMPLE)/journal $(SAMPLE)/replies
 
-test: reference expected
+test: reference expected tails
 	@rt fmt --check
 	@rt ci
 
@@ -20,10 +18,25 @@ test: reference expected
 reference:
 	cd reference && $(CARGO) test --release --offline --quiet
 
-.PHONY: tools
 tools:
 	@mkdir -p target
 	@cd reference && $(CARGO) build --release --offline --quiet
+
+# The proved replay program.
+.PHONY: target/bin/replay
+target/bin/replay: tools
+	@mkdir -p $(SAMPLE)
+	@rt check replay >$(SAMPLE)/check.log 2>&1 || { cat $(SAMPLE)/check.log; exit 1; }
+
+# Journals that are empty, end inside a record or have a LEN out of range.
+TAILS = empty clean time no-frame len no-body body checksum len-5 len-599 len-65535
+tails: target/bin/replay
+	@for kind in $(TAILS); do \
+	    $(TOOLS)/journal --tail $$kind $(SAMPLE)/tail $(SAMPLE)/tail.expected && \
+	    target/bin/replay <$(SAMPLE)/tail >$(SAMPLE)/tail.replies && \
+	    cmp $(SAMPLE)/tail.expected $(SAMPLE)/tail.replies || exit 1; \
+	done
+	@echo "replay of $(TAILS): as expected"
 
 # What the proved programs are held to is what the second program writes.
 expected: tools
