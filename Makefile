@@ -2,7 +2,7 @@
 CARGO = cargo
 TOOLS = reference/target/release
 SAMPLE = target/sample
-.PHONY: run test reference tools expected tails fmt
+.PHONY: run test reference tools expected tails library differential fuzz bench fmt
 
 run: target/bin/replay
 	@$(TOOLS)/journal $(SAMPLE)/journal $(SAMPLE)/expected
@@ -10,7 +10,7 @@ run: target/bin/replay
 	@cmp $(SAMPLE)/expected $(SAMPLE)/replies
 	@$(TOOLS)/view $(SAMPLE)/journal $(SAMPLE)/replies
 
-test: reference expected tails
+test: reference expected tails differential
 	@rt fmt --check
 	@rt ci
 
@@ -37,6 +37,26 @@ tails: target/bin/replay
 	    cmp $(SAMPLE)/tail.expected $(SAMPLE)/tail.replies || exit 1; \
 	done
 	@echo "replay of $(TAILS): as expected"
+
+# The proved library for C and Rust, target/staticlib/libcapi.a.
+library: tools
+	@mkdir -p $(SAMPLE)
+	@rt staticlib capi >$(SAMPLE)/library.log 2>&1 || { cat $(SAMPLE)/library.log; exit 1; }
+
+# The C example, the wrapper, and every family of calls against the second program, with fixed seeds.
+differential: library
+	cd reference && $(CARGO) test --release --offline --quiet -p snowpulley-capi -p snowpulley-differential
+
+# The same for as long as one likes: make fuzz SECONDS=600 SEED=7
+SECONDS = 60
+SEED = 1
+fuzz: library
+	cd reference && $(CARGO) run --release --offline --quiet -p snowpulley-differential --bin fuzz -- $(SECONDS) $(SEED)
+
+# The proved library beside the second program, and the two replay programs.
+bench: library target/bin/replay
+	cd reference && $(CARGO) run --release --offline --quiet -p snowpulley-bench
+	cd reference && $(CARGO) run --release --offline --quiet -p snowpulley-bench -- replay ../target/bin/replay
 
 # What the proved programs are held to is what the second program writes.
 expected: tools

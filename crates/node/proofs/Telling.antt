@@ -22,7 +22,7 @@ use Rattle.frame.specs.Message as message
 use Rattle.frame.specs.Layout.{frameOf}
 use Rattle.frame.specs.Reading.{Outcome, envelopeHolds, typeIn, bodyIn, outcomeOf, readBody, readFrame}
 use Rattle.frame.specs.Reading as reading
-use Rattle.frame.proofs.RoundTrips.{written-reads-back}
+use Rattle.frame.proofs.RoundTrips.{frame-at-most-600, written-reads-back}
 use Rattle.image.specs.Image.{slotsOf, entriesOf, sound}
 use Rattle.store.specs.Held.{put, find}
 use Rattle.store.specs.Answer.{Answer}
@@ -31,7 +31,7 @@ use Rattle.store.specs.Offer.{told, offerAnswer}
 use Rattle.store.specs.Lookup.{Finding, findingFor, lookupAnswer, valuePart}
 use Rattle.store.specs.Lookup as lookup
 use Rattle.node.specs.Handler.{Served, done, refused, localRefusal, replicaRefusal, offered, writeLocally, replicate, gets, serve, serveOutcome, serveFrame, over, settle, handled}
-use Rattle.node.specs.Meaning.{ReadsBack, ReplyReadsBack}
+use Rattle.node.specs.Meaning.{ReadsBack, ReplyReadsBack, ReplyAtMost600}
 use Rattle.node.proofs.Replying.{ok-taken, not-found-taken, value-taken, err-taken}
 use Rattle.node.proofs.Serving.{value-fits}
 
@@ -229,3 +229,15 @@ settled-reads s c reply (refused n) t =
 pub reply-reads-back : ReplyReadsBack
 unfolding handled
 reply-reads-back s c now frame reply room = rw (le-ltb (length reply) 600 room) (settled-reads s c reply (serveFrame s c now frame) (frame-tellable s c now frame))
+
+settled-short : (s : List ℕ) (c : Clock) (reply : List ℕ) (x : Served) → Tellable x → settle s c reply x .written ≤ 600
+unfolding settle
+settled-short s c reply (done s′ c′ m) t = frame-at-most-600 m (t .0)
+settled-short s c reply (refused n) t = frame-at-most-600 (message.err n) (err-taken n (t .0) (omega arith))
+
+pub reply-at-most-600 : ReplyAtMost600
+unfolding handled
+reply-at-most-600 s c now frame reply = elim (test (ltb (length reply) 600)) [
+  | inl p ↦ rw p (omega arith)
+  | inr p ↦ rw p (settled-short s c reply (serveFrame s c now frame) (frame-tellable s c now frame))
+]

@@ -64,6 +64,10 @@ pub record ReadsBack (x : Result) : Type 0 where
 abbrev pub ReplyReadsBack : Type 0
 ReplyReadsBack = (store : List ℕ) (c : Clock) (now : ℕ) (frame reply : List ℕ) → 600 ≤ length reply → ReadsBack (handled store c now frame reply)
 
+-- a reply is at most 600 bytes long, whatever the input
+abbrev pub ReplyAtMost600 : Type 0
+ReplyAtMost600 = (store : List ℕ) (c : Clock) (now : ℕ) (frame reply : List ℕ) → handled store c now frame reply .written ≤ 600
+
 -- ---- the same of whole calls
 
 -- a call that is not refused serves the message that its frame reads as, on a sound store

@@ -1,0 +1,54 @@
+use borrow.Author.Needs.{needs}
+use native.Mathlib.Omega.{arith}
+use mathlib.Core.Path.{_≡_, refl, sym, ap, _∙_}
+use mathlib.Core.List.{List, [], _∷_}
+use lib.ListN.{length}
+use Prim.Native.Nat.{_≤_}
+use Rattle.ring.specs.Answer.{positionMeaning}
+use Rattle.ring.specs.Place.{positionAnswer}
+use Rattle.capi.specs.Ring.{refusalIn, givenIn}
+use Rattle.capi.proofs.Fronts.{front-no-room, front-put, set-first}
+use Rattle.capi.proofs.Rings.{position-refused}
+use Rattle.capi.proofs.sp_key_position.Statement.{statement}
+use Rattle.capi.proofs.sp_key_position.Tie as tie
+
+key-position-requires : tie.Need-key-position-requires
+key-position-requires c κs = search needs
+
+enum-known-found : tie.Need-enum-known-found
+enum-known-found c = search needs
+
+refused-requires : tie.Need-refused-requires
+refused-requires c κs = search needs
+
+enum-known-found-2 : tie.Need-enum-known-found-2
+enum-known-found-2 c = search needs
+
+refused-requires-2 : tie.Need-refused-requires-2
+refused-requires-2 c κs = search needs
+
+returns : tie.Need-returns
+returns c =
+    let e = sym (ap positionMeaning (c .before .before .before .found2 .given .1)) ∙ c .before .before .before .before .before .key-position .ensures in
+    let p = front-no-room (refusalIn (positionAnswer (c .before .before .before .before .before .before .before .before .args .key .now) (c .before .before .before .before .before .before .before .before .args .salt))) (givenIn (positionAnswer (c .before .before .before .before .before .before .before .before .args .key .now) (c .before .before .before .before .before .before .before .before .args .salt)) ∷ []) (c .before .before .before .before .before .before .before .before .args .position .now) _ (sym (ap refusalIn e)) (c .before .if1 .taken) (c .refused2 .ensures) in
+    (p .told, p .left)
+
+slice-write-position : tie.Need-slice-write-position
+slice-write-position c = search needs
+
+returns-2 : tie.Need-returns-2
+returns-2 c =
+    let p = position-refused (positionAnswer (c .before .before .before .before .before .before .before .args .key .now) (c .before .before .before .before .before .before .before .args .salt)) (c .before .before .before .before .before .before .before .args .position .now) _ _ _ (c .before .before .found .given .1) (c .before .before .before .before .key-position .ensures) (c .refused .ensures) in
+    (p .told, p .left)
+
+same-length : tie.Need-same-length
+same-length c = search needs
+
+returns-3 : tie.Need-returns-3
+returns-3 c =
+    let e = sym (ap positionMeaning (c .before .before .found2 .given .1)) ∙ c .before .before .before .before .key-position .ensures in
+    let p = front-put (refusalIn (positionAnswer (c .before .before .before .before .before .before .before .args .key .now) (c .before .before .before .before .before .before .before .args .salt))) (givenIn (positionAnswer (c .before .before .before .before .before .before .before .args .key .now) (c .before .before .before .before .before .before .before .args .salt)) ∷ []) (c .before .before .before .before .before .before .before .args .position .now) 0 _ (sym (ap refusalIn e)) (c .if1 .left) refl (set-first (c .before .before .before .before .before .before .before .args .position .now) _ _ (c .if1 .left) (ap givenIn e)) in
+    (p .told, p .left)
+
+pub sp-key-position-spec : {M : Type 1} → statement M
+sp-key-position-spec = tie.close (tie.spec key-position-requires enum-known-found refused-requires enum-known-found-2 refused-requires-2 returns slice-write-position returns-2 same-length returns-3)

@@ -1,0 +1,9 @@
+pub mod Result
+pub mod Words
+pub mod Clock
+pub mod Peers
+pub mod Ring
+pub mod Frame
+pub mod Store
+pub mod Handle
+pub mod Meaning

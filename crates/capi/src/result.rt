@@ -1,0 +1,180 @@
+// Results: a refusal in the upper 16 bits, a count or an answer in the lower.
+use clock::ReceiveAnswer;
+use clock::SendAnswer;
+use entry::Refusal;
+use frame::Read;
+use frame::Wrote;
+use node::Reply;
+use peers::PeerAnswer;
+use ring::Built;
+use ring::Ownership;
+use store::Created;
+use store::Looked;
+use store::Merged;
+use store::Offered;
+ghost use mathlib.Core.Path.{_≡_};
+ghost use Prim.Native.Nat.{_<_};
+ghost use Rattle.entry.specs.Refusal.{number};
+ghost use Rattle.clock.specs.Answer.{sendMeaning, receiveMeaning};
+ghost use Rattle.peers.specs.Event.{answerNumber};
+ghost use Rattle.ring.specs.Answer.{builtMeaning, ownershipMeaning};
+ghost use Rattle.frame.specs.Writing.{answerOf};
+ghost use Rattle.store.specs.Create.{createdNumber};
+ghost use Rattle.store.specs.Lookup.{findingOf};
+ghost use Rattle.store.specs.Answer.{answerOf as offerMeaning, mergeAnswerOf};
+ghost use Rattle.node.specs.Answer.{replyNumber};
+ghost use Rattle.capi.specs.Result.{packed, flag as flagOf};
+ghost use Rattle.capi.specs.Clock.{sendRefusal};
+ghost use Rattle.capi.specs.Ring.{refusalIn, givenIn, answerWord};
+ghost use Rattle.capi.specs.Frame.{bytesIn, wroteWord, refusalOfRead};
+ghost use Rattle.capi.specs.Store.{storeWord, lookRefusal, lookNumber};
+
+// A refusal alone.
+pub fn refused(why: Refusal) -> u32
+    ensures { λ r. ⌜ r ≡ packed (number why) 0 ⌝ }
+{
+    (why.number() as u32) * 65_536
+}
+
+// 1 for true and 0 for false.
+pub fn flag(holds: bool) -> u32
+    ensures { λ r. ⌜ r ≡ flagOf holds ⌝ }
+{
+    if holds { 1 } else { 0 }
+}
+
+pub fn sent(answer: SendAnswer) -> u32
+    ensures { λ r. ⌜ r ≡ packed (sendRefusal (sendMeaning answer)) 0 ⌝ }
+{
+    match answer {
+        SendAnswer::Stamped(_) => 0,
+        SendAnswer::Refused(why) => refused(why),
+    }
+}
+
+pub fn received(answer: ReceiveAnswer) -> u32
+    ensures { λ r. ⌜ r ≡ packed (receiveMeaning answer) 0 ⌝ }
+{
+    match answer {
+        ReceiveAnswer::Received => 0,
+        ReceiveAnswer::Refused(why) => refused(why),
+    }
+}
+
+pub fn noted(answer: PeerAnswer) -> u32
+    ensures { λ r. ⌜ r ≡ packed (answerNumber answer) 0 ⌝ }
+{
+    match answer {
+        PeerAnswer::Done => 0,
+        PeerAnswer::Refused(why) => refused(why),
+    }
+}
+
+pub fn built(answer: Built) -> u32
+    requires { ⌜ givenIn (builtMeaning answer) < 65536 ⌝ }
+    ensures { λ r. ⌜ r ≡ answerWord (builtMeaning answer) ⌝ }
+{
+    match answer {
+        Built::Places(n) => n as u32,
+        Built::Refused(why) => refused(why),
+    }
+}
+
+pub fn walked(answer: Ownership) -> u32
+    ensures { λ r. ⌜ r ≡ packed (refusalIn (ownershipMeaning answer)) 0 ⌝ }
+{
+    match answer {
+        Ownership::Found(_) => 0,
+        Ownership::Refused(why) => refused(why),
+    }
+}
+
+pub fn wrote(answer: Wrote) -> u32
+    requires { ⌜ bytesIn (answerOf answer) < 65536 ⌝ }
+    ensures { λ r. ⌜ r ≡ wroteWord (answerOf answer) ⌝ }
+{
+    match answer {
+        Wrote::Bytes(n) => n as u32,
+        Wrote::Refused(why) => refused(why),
+    }
+}
+
+pub fn read(answer: Read) -> u32
+    ensures { λ r. ⌜ r ≡ packed (refusalOfRead answer) 0 ⌝ }
+{
+    match answer {
+        Read::Put { .. } => 0,
+        Read::Get { .. } => 0,
+        Read::Del { .. } => 0,
+        Read::Repl { .. } => 0,
+        Read::Ok => 0,
+        Read::Value { .. } => 0,
+        Read::NotFound => 0,
+        Read::Err(_) => 0,
+        Read::Refused(why) => refused(why),
+    }
+}
+
+pub fn created(answer: Created) -> u32
+    ensures { λ r. ⌜ r ≡ packed (createdNumber answer) 0 ⌝ }
+{
+    match answer {
+        Created::Fresh => 0,
+        Created::Refused(why) => refused(why),
+    }
+}
+
+pub fn offered(answer: Offered) -> u32
+    ensures { λ r. ⌜ r ≡ storeWord (offerMeaning answer) ⌝ }
+{
+    match answer {
+        Offered::Stored => 0,
+        Offered::Replaced => 1,
+        Offered::Kept => 2,
+        Offered::Refused(why) => refused(why),
+    }
+}
+
+pub fn merged(answer: Merged) -> u32
+    ensures { λ r. ⌜ r ≡ storeWord (mergeAnswerOf answer) ⌝ }
+{
+    match answer {
+        Merged::Done => 0,
+        Merged::Refused(why) => refused(why),
+    }
+}
+
+// The refusal of a lookup alone.
+pub fn looked(answer: Looked) -> u32
+    ensures { λ r. ⌜ r ≡ packed (lookRefusal (findingOf answer)) 0 ⌝ }
+{
+    match answer {
+        Looked::Value => 0,
+        Looked::Deleted => 0,
+        Looked::Never => 0,
+        Looked::Refused(why) => refused(why),
+    }
+}
+
+// The answer of a lookup alone.
+pub fn found(answer: Looked) -> u32
+    ensures { λ r. ⌜ r ≡ lookNumber (findingOf answer) ⌝ }
+{
+    match answer {
+        Looked::Value => 0,
+        Looked::Deleted => 1,
+        Looked::Never => 2,
+        Looked::Refused(_) => 0,
+    }
+}
+
+pub fn replied(answer: Reply, written: usize) -> u32
+    requires { ⌜ written < 65536 ⌝ }
+    ensures { λ r. ⌜ r ≡ packed (replyNumber answer) written ⌝ }
+{
+    let count = written as u32;
+    match answer {
+        Reply::Done => count,
+        Reply::Refused(why) => refused(why) + count,
+    }
+}

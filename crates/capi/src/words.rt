@@ -1,0 +1,246 @@
+// A clock as four words and a peer table as 61, and words put to the front of a lent slice.
+use clock::Clock;
+use frame::Read;
+use peers::PeerTable;
+use peers::Row;
+ghost use mathlib.Core.Path.{_≡_};
+ghost use mathlib.Core.Bool.{true};
+ghost use mathlib.Core.List.{_++_};
+ghost use Prim.Native.Nat.{_<_, _≤_};
+ghost use lib.ListN.{length, drop};
+ghost use Rattle.capi.specs.Words.{isClock, clockOf, clockWords, rowWords, tableWords, rowFits, rowOf, rowsFit, isTable, tableOf};
+ghost use Rattle.capi.specs.Frame.{keyLength, wordsIn};
+
+const CLOCK_WORDS: usize = 4;
+
+const TABLE_WORDS: usize = 61;
+// The words of 8, 16 and 32 bits are below these.
+const BYTE_LIMIT: u64 = 256;
+
+const HALF_LIMIT: u64 = 65_536;
+
+const WORD_LIMIT: u64 = 4_294_967_296;
+
+// Puts words to the front of `out`; the later ones stay.
+pub fn put_front(out: &mut [u64], words: &[u64])
+    requires { ⌜ length (now words) ≤ length (now out) ⌝ }
+    ensures { λ _. ⌜ now (out .exit) ≡ now (words .entry) ++ drop (length (now (words .entry))) (now (out .entry)) ⌝ }
+{
+    let mut i = 0;
+    while i < words.len() {
+        out[i] = words[i];
+        i += 1;
+    }
+}
+
+// Whether words are a clock.
+pub fn is_clock(words: &[u64]) -> bool
+    ensures { λ r. ⌜ r ≡ isClock (now (words .entry)) ⌝ }
+{
+    if words.len() != CLOCK_WORDS {
+        return false;
+    }
+    if HALF_LIMIT <= words[1] {
+        return false;
+    }
+    if BYTE_LIMIT <= words[2] {
+        return false;
+    }
+    words[3] < WORD_LIMIT
+}
+
+// The clock that words stand for.
+pub fn clock_of(words: &[u64]) -> Clock
+    requires { ⌜ isClock (now words) ≡ true ⌝ }
+    ensures { λ r. ⌜ r ≡ clockOf (now (words .entry)) ⌝ }
+{
+    Clock {
+        phys: words[0],
+        logical: words[1] as u16,
+        node: words[2] as u8,
+        skew: words[3] as u32,
+    }
+}
+
+// Puts a clock's words to the front of `out`.
+pub fn put_clock(out: &mut [u64], clock: Clock)
+    requires { ⌜ 4 ≤ length (now out) ⌝ }
+    ensures { λ _. ⌜ now (out .exit) ≡ clockWords clock ++ drop 4 (now (out .entry)) ⌝ }
+{
+    let words = [
+        clock.phys,
+        clock.logical as u64,
+        clock.node as u64,
+        clock.skew as u64,
+    ];
+    put_front(out, &words);
+}
+
+// Whether the words of row `k` fit their fields.
+fn row_fits(words: &[u64], k: usize) -> bool
+    requires { ⌜ (length (now words) ≡ 61) × (k < 10) ⌝ }
+    ensures { λ r. ⌜ r ≡ rowFits k (now (words .entry)) ⌝ }
+{
+    let at = 1 + 6 * k;
+    if BYTE_LIMIT <= words[at] {
+        return false;
+    }
+    if WORD_LIMIT <= words[at + 1] {
+        return false;
+    }
+    if HALF_LIMIT <= words[at + 2] {
+        return false;
+    }
+    if BYTE_LIMIT <= words[at + 3] {
+        return false;
+    }
+    words[at + 4] < WORD_LIMIT
+}
+
+// Whether the words of every row fit their fields.
+fn rows_fit(words: &[u64]) -> bool
+    requires { ⌜ length (now words) ≡ 61 ⌝ }
+    ensures { λ r. ⌜ r ≡ rowsFit 10 (now (words .entry)) ⌝ }
+{
+    let mut left: usize = 10;
+    while 0 < left {
+        left -= 1;
+        if !row_fits(words, left) {
+            return false;
+        }
+    }
+    true
+}
+
+// Whether words are a peer table.
+pub fn is_table(words: &[u64]) -> bool
+    ensures { λ r. ⌜ r ≡ isTable (now (words .entry)) ⌝ }
+{
+    if words.len() != TABLE_WORDS {
+        return false;
+    }
+    if BYTE_LIMIT <= words[0] {
+        return false;
+    }
+    rows_fit(words)
+}
+
+// Row `k`.
+fn row_of(words: &[u64], k: usize) -> Row
+    requires { ⌜ (length (now words) ≡ 61) × (k < 10) × (rowFits k (now words) ≡ true) ⌝ }
+    ensures { λ r. ⌜ r ≡ rowOf k (now (words .entry)) ⌝ }
+{
+    let at = 1 + 6 * k;
+    Row {
+        id: words[at] as u8,
+        address: words[at + 1] as u32,
+        port: words[at + 2] as u16,
+        state: words[at + 3] as u8,
+        incarnation: words[at + 4] as u32,
+        last_seen: words[at + 5],
+    }
+}
+
+// The peer table that words stand for.
+pub fn table_of(words: &[u64]) -> PeerTable
+    requires { ⌜ isTable (now words) ≡ true ⌝ }
+    ensures { λ r. ⌜ r ≡ tableOf (now (words .entry)) ⌝ }
+{
+    let none = Row {
+        id: 0,
+        address: 0,
+        port: 0,
+        state: 0,
+        incarnation: 0,
+        last_seen: 0,
+    };
+    let mut rows = [none; 10];
+    let mut k: usize = 0;
+    while k < 10 {
+        let row = row_of(words, k);
+        rows[k] = row;
+        k += 1;
+    }
+    PeerTable {
+        rows,
+        count: words[0] as u8,
+    }
+}
+
+fn row_words(row: Row) -> [u64; 6]
+    ensures { λ r. ⌜ r ≡ rowWords row ⌝ }
+{
+    [
+        row.id as u64,
+        row.address as u64,
+        row.port as u64,
+        row.state as u64,
+        row.incarnation as u64,
+        row.last_seen,
+    ]
+}
+
+// Puts a table's words to the front of `out`.
+pub fn put_table(table: PeerTable, out: &mut [u64])
+    requires { ⌜ 61 ≤ length (now out) ⌝ }
+    ensures { λ _. ⌜ now (out .exit) ≡ tableWords table ++ drop 61 (now (out .entry)) ⌝ }
+{
+    out[0] = table.count as u64;
+    let mut k: usize = 0;
+    while k < 10 {
+        let row = table.rows[k];
+        let words = row_words(row);
+        let at = 1 + 6 * k;
+        let end = at + 6;
+        put_front(&mut out[at..end], &words);
+        k += 1;
+    }
+}
+
+// What was read of a frame, as ten words. The key stands after LEN, TYPE, FLAGS and klen, and a value after its vlen.
+pub fn field_words(what: Read) -> [u64; 10]
+    requires { ⌜ keyLength what ≤ 64 ⌝ }
+    ensures { λ r. ⌜ r ≡ wordsIn what ⌝ }
+{
+    match what {
+        Read::Put {
+            key_len,
+            value_len,
+            ..
+        } => {
+            let k = key_len as u64;
+            [1, 5, k, k + 7, value_len as u64, 0, 0, 0, 0, 0]
+        }
+        Read::Get { key_len, .. } => [2, 5, key_len as u64, 0, 0, 0, 0, 0, 0, 0],
+        Read::Del { key_len, .. } => [3, 5, key_len as u64, 0, 0, 0, 0, 0, 0, 0],
+        Read::Repl {
+            key_len,
+            value_len,
+            flag,
+            stamp,
+            ..
+        } => {
+            let k = key_len as u64;
+            let at = k + 17;
+            let logical = stamp.logical as u64;
+            let node = stamp.node as u64;
+            [
+                4,
+                5,
+                k,
+                at,
+                value_len as u64,
+                flag as u64,
+                stamp.phys,
+                logical,
+                node,
+                0,
+            ]
+        }
+        Read::Ok => [16, 0, 0, 0, 0, 0, 0, 0, 0, 0],
+        Read::Value { value_len, .. } => [17, 0, 0, 6, value_len as u64, 0, 0, 0, 0, 0],
+        Read::NotFound => [18, 0, 0, 0, 0, 0, 0, 0, 0, 0],
+        Read::Err(number) => [20, 0, 0, 0, 0, 0, 0, 0, 0, number as u64],
+        Read::Refused(_) => [0; 10],
+    }
+}
