@@ -3,4 +3,5 @@ pub mod Number
 pub mod Fill
 pub mod Fields
 pub mod Order
+pub mod Zeros
 pub mod Writing

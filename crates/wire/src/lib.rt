@@ -1,6 +1,7 @@
 // Bytes as frames and store images use them: big-endian numbers, zero fill, and byte strings compared.
 // Each function is total: it answers something defined for any slices.
 ghost use mathlib.Core.Path.{_≡_};
+ghost use Prim.Native.Nat.{_≤_};
 ghost use lib.ListN.{length, getD, take};
 ghost use Rattle.wire.specs.Number.{be, num};
 ghost use Rattle.wire.specs.Fill.{zeros, padded};
@@ -61,18 +62,33 @@ pub fn put_padded(out: &mut [u8], s: &[u8])
     }
 }
 
+// Whether a few bytes are zeros alone: their sum is 0. No turn depends on a byte, so that the compiler can take many at once.
+fn block_is_zero(s: &[u8]) -> bool
+    requires { ⌜ length (now s) ≤ 64 ⌝ }
+    ensures { λ r. ⌜ r ≡ sameBytes (now (s .entry)) (zeros (length (now (s .entry)))) ⌝ }
+{
+    let mut sum: u64 = 0;
+    let mut i = 0;
+    while i < s.len() {
+        sum += s[i] as u64;
+        i += 1;
+    }
+    sum == 0
+}
+
 // Whether `s` is zeros alone.
 pub fn all_zero(s: &[u8]) -> bool
     ensures { λ r. ⌜ r ≡ sameBytes (now (s .entry)) (zeros (length (now (s .entry)))) ⌝ }
 {
     let mut i = 0;
-    while i < s.len() {
-        if s[i] != 0 {
+    while 64 <= s.len() - i {
+        let end = i + 64;
+        if !block_is_zero(&s[i..end]) {
             return false;
         }
-        i += 1;
+        i = end;
     }
-    true
+    block_is_zero(&s[i..])
 }
 
 // Whether `a` and `b` are the same bytes.

@@ -1,53 +1,64 @@
 use borrow.Author.Needs.{needs}
 use native.Mathlib.Omega.{arith}
-use mathlib.Core.Path.{_≡_, sym, _∙_}
-use Prim.Native.Nat.{_-_, _≤_}
-use lib.ListN.{length, drop}
-use Rattle.wire.specs.Fill.{zeros}
-use Rattle.wire.specs.Order.{sameBytes}
-use Rattle.wire.proofs.Fill.{length-zeros, getD-zeros}
-use Rattle.wire.proofs.Order.{same-on, same-not, same-end}
+use borrow.Author.Tests.{not-true, not-false}
+use mathlib.Core.Path.{_≡_, refl, sym, ap, _∙_}
+use mathlib.Core.Bool.{Bool, true, false, _&&_}
+use Prim.Native.Nat.{ℕ, _+_, _-_, _≤_}
+use lib.ListN.{length, drop, length-take, length-drop}
+use Rattle.wire.proofs.Zeros.{allZero, zero-step, zero-rest}
 use Rattle.wire.proofs.all_zero.Statement.{statement}
 use Rattle.wire.proofs.all_zero.Tie as tie
 
 abbrev Inv-loop : tie.InvT-loop
-Inv-loop s i₀ i = (sameBytes (drop i s) (drop i (zeros (length s))) ≡ sameBytes s (zeros (length s))) × (i ≤ length s)
+Inv-loop s i₀ i = (allZero (drop i s) ≡ allZero s) × (i ≤ length s)
 
 abbrev μ-loop : tie.MeasureT-loop
 μ-loop s i₀ i = length s - i
 
 loop-holds : tie.Need-loop-holds Inv-loop μ-loop
-loop-holds c = search needs
+loop-holds c = (refl, omega arith)
 
-shared-slice-read-if1 : tie.Need-shared-slice-read-if1 Inv-loop μ-loop
-shared-slice-read-if1 c = search needs
+sub-loop : tie.Need-sub-loop Inv-loop μ-loop
+sub-loop c = search needs
+
+add-end : tie.Need-add-end Inv-loop μ-loop
+add-end c = search needs
+
+sub-block-is-zero : tie.Need-sub-block-is-zero Inv-loop μ-loop
+sub-block-is-zero c = search needs
+
+part-block-is-zero-start : tie.Need-part-block-is-zero-start Inv-loop μ-loop
+part-block-is-zero-start c = search needs
+
+part-block-is-zero-end : tie.Need-part-block-is-zero-end Inv-loop μ-loop
+part-block-is-zero-end c = search needs
+
+block-is-zero-requires : tie.Need-block-is-zero-requires Inv-loop μ-loop
+block-is-zero-requires c κs = omega (arith, length-take (c .before .before .loop .i + 64 - c .before .before .loop .i) (drop (c .before .before .loop .i) (c .before .before .before .before .args .s .now)))
 
 returns : tie.Need-returns Inv-loop μ-loop
-returns c =
-    let l = c .before .before .before .loop in
-    let s = c .before .before .before .before .args .s .now in
-    let n = length-zeros (length s) in
-    sym (same-not s (zeros (length s)) (l .i) (omega arith) (omega arith) (λ e. c .if1 .taken (e ∙ getD-zeros (length s) (l .i) (omega arith)))) ∙ l .inv .0
-
-add-i : tie.Need-add-i Inv-loop μ-loop
-add-i c = search needs
+returns c = sym (sym (c .before .before .before .before .loop .inv .0) ∙ zero-step (c .before .before .before .before .loop .i) (c .before .before .before .before .before .before .args .s .now) (c .before .block-is-zero .result) (omega arith) (c .before .block-is-zero .ensures) ∙ ap (λ (b : Bool). b && allZero (drop (c .before .before .before .before .loop .i + 64) (c .before .before .before .before .before .before .args .s .now))) (not-true (c .before .block-is-zero .result) (c .if1 .taken)))
 
 loop-less : tie.Need-loop-less Inv-loop μ-loop
 loop-less c = search needs
 
 loop-again : tie.Need-loop-again Inv-loop μ-loop
-loop-again c =
-    let l = c .before .before .before .loop in
-    let s = c .before .before .before .before .args .s .now in
-    let n = length-zeros (length s) in
-    (same-on s (zeros (length s)) (l .i) (omega arith) (omega arith) (c .if1 .left ∙ sym (getD-zeros (length s) (l .i) (omega arith))) ∙ l .inv .0, omega arith)
+loop-again c = (sym (zero-step (c .before .before .before .before .loop .i) (c .before .before .before .before .before .before .args .s .now) (c .before .block-is-zero .result) (omega arith) (c .before .block-is-zero .ensures) ∙ ap (λ (b : Bool). b && allZero (drop (c .before .before .before .before .loop .i + 64) (c .before .before .before .before .before .before .args .s .now))) (not-false (c .before .block-is-zero .result) (c .if1 .left))) ∙ c .before .before .before .before .loop .inv .0, omega arith)
+
+sub-block-is-zero-2 : tie.Need-sub-block-is-zero-2 Inv-loop μ-loop
+sub-block-is-zero-2 c = search needs
+
+part-block-is-zero-start-2 : tie.Need-part-block-is-zero-start-2 Inv-loop μ-loop
+part-block-is-zero-start-2 c = search needs
+
+part-block-is-zero-end-2 : tie.Need-part-block-is-zero-end-2 Inv-loop μ-loop
+part-block-is-zero-end-2 c = search needs
+
+block-is-zero-requires-2 : tie.Need-block-is-zero-requires-2 Inv-loop μ-loop
+block-is-zero-requires-2 c κs = omega (arith, length-take (length (c .before .before .before .before .args .s .now) - c .before .before .loop .i) (drop (c .before .before .loop .i) (c .before .before .before .before .args .s .now)))
 
 returns-2 : tie.Need-returns-2 Inv-loop μ-loop
-returns-2 c =
-    let l = c .before .loop in
-    let s = c .before .before .args .s .now in
-    let n = length-zeros (length s) in
-    sym (same-end s (zeros (length s)) (l .i) (omega arith) (omega arith)) ∙ l .inv .0
+returns-2 c = c .block-is-zero2 .ensures ∙ zero-rest (c .before .before .before .loop .i) (c .before .before .before .before .before .args .s .now) ∙ c .before .before .before .loop .inv .0
 
 pub all-zero-spec : {M : Type 1} → statement M
 all-zero-spec =
@@ -56,9 +67,17 @@ all-zero-spec =
     Inv-loop
     μ-loop
     loop-holds
-    shared-slice-read-if1
+    sub-loop
+    add-end
+    sub-block-is-zero
+    part-block-is-zero-start
+    part-block-is-zero-end
+    block-is-zero-requires
     returns
-    add-i
     loop-less
     loop-again
+    sub-block-is-zero-2
+    part-block-is-zero-start-2
+    part-block-is-zero-end-2
+    block-is-zero-requires-2
     returns-2)
