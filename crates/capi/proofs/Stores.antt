@@ -8,10 +8,14 @@ use native.Mathlib.Numerals.{add-one}
 use lib.ListN.{length, drop, drop-of-length-le}
 use lib.Dec.{eqb}
 use Rattle.wire.specs.Order.{sameBytes}
-use Rattle.image.specs.Image.{keyIn, slotEntry, usedOf, entriesOf}
+use mathlib.Core.Logic.{inl, inr}
+use Rattle.image.specs.Image.{keyIn, slotEntry, usedOf, entriesOf, sound}
 use Rattle.image.specs.Slot.{slotAt}
 use Rattle.image.proofs.ImageLaws.{entry-at, used-is}
-use Rattle.store.specs.Lookup.{Finding, value, deleted, never, refused, lookupAnswer}
+use Rattle.wire.proofs.Tests.{test}
+use Rattle.store.specs.Lookup.{Finding, value, deleted, never, refused, lookupAnswer, valuePart}
+use Rattle.store.specs.Unchecked.{valueUnchecked}
+use Rattle.store.proofs.OnSound.{unchecked-on-sound}
 use Rattle.frame.specs.Writing.{writeRefusal, afterWrite}
 use Rattle.capi.specs.Store.{lookRefusal, lookNumber, indexOf, placeWords, placeRefusal, lookupWord}
 use Rattle.capi.proofs.Fronts.{Puts, not-none, none}
@@ -51,3 +55,11 @@ module _ (store key place : List ℕ) (r : ℕ) (after : List ℕ) where
   pub look-found : Puts own front place 0 after → r ≡ lookNumber (lookupAnswer store key) → (r ≡ lookupWord store key place) × (after ≡ afterWrite own front place)
   unfolding lookupWord placeRefusal
   look-found p e = (rw (none (writeRefusal own front place) 0 (p .told) refl) (e ∙ omega arith), p .left)
+
+-- a value that was found is the one that is read with no second test of soundness
+pub value-found : (s k : List ℕ) → lookupAnswer s k ≡ value → valueUnchecked s k ≡ valuePart s k
+unfolding lookupAnswer
+value-found s k e = elim (test (sound s)) [
+  | inl h ↦ unchecked-on-sound s h .value k
+  | inr h ↦ let f : refused 5 ≡ value = rw h at e in let z : _≡_ {A = ℕ} 0 1 = cc in absurd (omega arith)
+]

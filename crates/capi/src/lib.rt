@@ -474,12 +474,13 @@ fn index_of(store: &[u8], key: &[u8]) -> usize
 
 // Where the value of a key stands in the store, and its length.
 fn place_of(store: &[u8], key: &[u8], what: Looked) -> [u64; 2]
+    requires { ⌜ findingOf what ≡ lookupAnswer (now store) (now key) ⌝ }
     ensures { λ r. ⌜ r ≡ placeWords (now (store .entry)) (now (key .entry)) (findingOf what) ⌝ }
 {
     match what {
         Looked::Value => {
             let at = 96 + 596 * (index_of(store, key) as u64);
-            let held = store::value(store, key);
+            let held = store::value_unchecked(store, key);
             [at, held.len() as u64]
         }
         Looked::Deleted => [0; 2],
