@@ -13,7 +13,9 @@ use Rattle.wire.specs.Fill.{field}
 use Rattle.wire.proofs.Fill.{length-field}
 use Rattle.wire.proofs.Tests.{test, clash}
 use Rattle.entry.specs.Refusal.{number}
-use Rattle.entry.specs.Key.{badKey, reserved}
+use Rattle.entry.specs.Key.{badKey}
+use Rattle.entry.proofs.Accept.{key-short as short-key}
+use Rattle.entry.proofs.Numbers.{number-not-0}
 use Rattle.frame.specs.declared.answer.Read.{Read}
 use Rattle.frame.specs.declared.answer.Read.the-variants as read
 use Rattle.frame.specs.declared.answer.Wrote.{Wrote}
@@ -21,8 +23,7 @@ use Rattle.frame.specs.Message.{Message, put, get, del, repl, ok, value, notFou
 use Rattle.frame.specs.Layout.{frameOf}
 use Rattle.frame.specs.Reading.{Outcome, message, refused, readFrame, meaning, Within, Reads}
 use Rattle.frame.specs.Writing.{answerOf, writeRefusal, writeAnswer, Writes}
-use Rattle.frame.proofs.Bodies.{or-false, taken}
-use Rattle.frame.proofs.Outcomes.{number-not-0}
+use Rattle.frame.proofs.Bodies.{taken}
 use Rattle.frame.proofs.RoundTrips.{frame-at-most-600, read-is-taken}
 use Rattle.capi.specs.Frame.{bytesIn, wroteWord, writeWord, writeBytes, readRefusal, readWords, refusalOfRead, keyLength, wordsIn}
 
@@ -55,10 +56,6 @@ same-refusal s (read.Value va vl) o w = ap readRefusal (w .means)
 same-refusal s read.NotFound o w = ap readRefusal (w .means)
 same-refusal s (read.Err n) o w = ap readRefusal (w .means)
 same-refusal s (read.Refused x) o w = ap readRefusal (w .means)
-
-short-key : (k : List ℕ) → badKey k ≡ false → length k ≤ 64
-unfolding badKey
-short-key k h = ltb-false 64 (length k) (or-false (eqb (length k) 0) (ltb 64 (length k)) (or-false (eqb (length k) 0 || ltb 64 (length k)) (reserved k) h .0) .1)
 
 module _ (s : List ℕ) (b : Bytes s) where
   key-at-most : (m : Message) (k : List ℕ) (at n : ℕ) → message m ≡ readFrame s → keyFault m ≡ badKey k → k ≡ field at n s → at + n ≤ length s → n ≤ 64

@@ -10,7 +10,7 @@ use borrow.Author.Tests.{lt-ltb, le-ltb, ne-eqb}
 use Rattle.entry.specs.declared.Refusal.{Refusal}
 use Rattle.entry.specs.Refusal.{number}
 use Rattle.frame.specs.Writing.{writeRefusal, afterWrite}
-use Rattle.frame.proofs.Outcomes.{number-not-0}
+use Rattle.entry.proofs.Numbers.{number-not-0}
 use Rattle.capi.specs.Result.{packed}
 
 -- a result r, and what is left of the slice, are those of putting the front f, after the refusal n

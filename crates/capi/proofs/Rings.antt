@@ -10,7 +10,7 @@ use lib.ListN.{length}
 use lib.Dec.{leb, ltb}
 use borrow.Author.Tests.{le-leb, lt-leb, ltb-false, not-false}
 use Rattle.wire.proofs.Tests.{test}
-use Rattle.frame.proofs.Bodies.{or-false}
+use Rattle.wire.proofs.Tests.{or-false}
 use Rattle.peers.specs.declared.PeerTable.{PeerTable}
 use Rattle.peers.specs.declared.Admission.{Admission}
 use Rattle.entry.specs.declared.Refusal.{Refusal}

@@ -9,8 +9,8 @@ use Rattle.clock.specs.declared.Step.{Step}
 use Rattle.clock.specs.declared.Step.the-variants as step
 use Rattle.clock.specs.declared.SendAnswer.the-variants as send
 use Rattle.clock.specs.declared.ReceiveAnswer.the-variants as receive
-use Rattle.clock.specs.Clock.{Stepped, next, refused, stampOf, sendStep, receiveStep}
-use Rattle.clock.specs.Answer.{stepMeaning, clockAfter, Given, stamp, given, refusalOf, Sends, Receives}
+use Rattle.clock.specs.Clock.{next, refused, stampOf, sendStep, receiveStep}
+use Rattle.clock.specs.Answer.{stepMeaning, clockAfter, stamp, given, refusalOf, Sends, Receives}
 
 module _ (c : Clock) (st : Step) where
   module _ (now : ℕ) (e : stepMeaning st ≡ sendStep c now) where

@@ -1,16 +1,15 @@
 -- Every step raises the clock.
-use mathlib.Core.Path.{_≡_, refl, sym, ap, _∙_}
+use mathlib.Core.Path.{_≡_, refl}
 use mathlib.Core.Logic.{_⊎_, inl, inr}
-use mathlib.Core.Bool.{Bool, true, false, cond, _||_}
+use mathlib.Core.Bool.{false, _||_}
 use Prim.Native.Nat.{ℕ, _+_, _≤_, _<_, _^_}
 use native.Mathlib.Omega.{arith}
 use lib.Dec.{ltb, leb}
-use borrow.Author.Tests.{ltb-true, ltb-false, leb-true, leb-false}
+use borrow.Author.Tests.{ltb-true, leb-false}
 use Rattle.wire.proofs.Tests.{test, clash}
-use Rattle.entry.specs.Order.{stampBelow}
 use Rattle.entry.proofs.Order.{stamp-order-by-field}
 use Rattle.clock.specs.declared.Clock.{Clock}
-use Rattle.clock.specs.Clock.{Stepped, next, refused, stampOf, later, raise, withSkew, sendStep, receiveInRange, receiveStep}
+use Rattle.clock.specs.Clock.{next, refused, stampOf, later, raise, withSkew, sendStep, receiveInRange, receiveStep}
 use Rattle.clock.specs.Meaning.{Rises, SendRises, ReceiveRises}
 
 -- a refusal is no next clock

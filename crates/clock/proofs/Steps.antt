@@ -1,16 +1,14 @@
 -- The cases of each step.
-use mathlib.Core.Path.{_≡_, refl, sym, ap, _∙_}
-use mathlib.Core.Logic.{_⊎_, inl, inr}
-use mathlib.Core.Bool.{Bool, true, false, cond, _||_}
+use mathlib.Core.Path.{_≡_}
+use mathlib.Core.Logic.{inl, inr}
+use mathlib.Core.Bool.{_||_}
 use Prim.Native.Nat.{ℕ, _+_, _≤_, _<_, _^_}
 use native.Mathlib.Omega.{arith}
 use lib.Dec.{ltb, leb}
-use borrow.Author.Tests.{lt-ltb, le-ltb, le-leb, lt-leb, ltb-true, ltb-false, leb-true, leb-false}
-use Rattle.wire.proofs.Tests.{test, clash}
-use Rattle.entry.specs.Order.{stampBelow}
-use Rattle.entry.proofs.Order.{stamp-order-by-field}
+use borrow.Author.Tests.{lt-ltb, le-ltb, le-leb, lt-leb}
+use Rattle.wire.proofs.Tests.{test}
 use Rattle.clock.specs.declared.Clock.{Clock}
-use Rattle.clock.specs.Clock.{Stepped, next, refused, stampOf, later, raise, withSkew, badTime, sendStep, receiveInRange, receiveStep}
+use Rattle.clock.specs.Clock.{Stepped, next, refused, later, raise, withSkew, badTime, sendStep, receiveInRange, receiveStep}
 
 module _ (c : Clock) (now : ℕ) where
   pub send-bad-now : 2 ^ 48 ≤ now → refused 9 ≡ sendStep c now
@@ -63,14 +61,21 @@ module _ (c : Clock) (p l now : ℕ) where
     unfolding receiveInRange
     not-ahead h = rw (le-ltb (now + 2000) p w, le-ltb (c .phys) p h)
 
--- ---- every refusal has a number above 0
+-- ---- every refusal has its number
 abbrev pub Numbered : Stepped → Type 0
 Numbered (next d) = Unit {0}
-Numbered (refused n) = 0 < n
+Numbered (refused n) = (0 < n) × (n ≤ 17)
 
 raise-numbered : (c : Clock) (p l : ℕ) → Numbered (raise c p l)
 unfolding raise
 raise-numbered c p l = elim (test (leb 65535 l)) [ inl h ↦ rw h (omega arith) | inr h ↦ rw h tt ]
+
+pub send-numbered : (c : Clock) (now : ℕ) → Numbered (sendStep c now)
+unfolding sendStep
+send-numbered c now = elim (test (badTime now || badTime (c .phys))) [
+  | inl h ↦ rw h (omega arith)
+  | inr h ↦ rw h (elim (test (ltb (c .phys) now)) [ inl k ↦ rw k tt | inr k ↦ rw k (raise-numbered c (c .phys) (c .logical)) ])
+]
 
 pub receive-numbered : (c : Clock) (p l now : ℕ) → Numbered (receiveStep c p l now)
 unfolding receiveStep receiveInRange

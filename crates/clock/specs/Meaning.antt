@@ -1,7 +1,7 @@
 -- What holds of the clock's steps.
 use Prim.Native.Nat.{ℕ, _≤_, _<_, _^_}
 use mathlib.Core.Path.{_≡_}
-use mathlib.Core.Bool.{Bool, true}
+use mathlib.Core.Bool.{true}
 use Rattle.entry.specs.Order.{stampBelow}
 use Rattle.clock.specs.declared.Clock.{Clock}
 use Rattle.clock.specs.Clock.{next, stampOf, sendStep, receiveStep}

@@ -1,17 +1,17 @@
 -- The orders of keys and stamps are strict and total, and which of two entries wins.
-use Prim.Native.Nat.{ℕ, _<_}
+use Prim.Native.Nat.{_<_}
 use native.Mathlib.Omega.{arith}
-use mathlib.Core.Path.{_≡_, refl, sym, _∙_}
+use mathlib.Core.Path.{_≡_, _∙_}
 use mathlib.Core.Logic.{_⊎_, inl, inr}
-use mathlib.Core.Bool.{Bool, true, false, cond}
-use lib.Dec.{ltb, eqb}
+use mathlib.Core.Bool.{Bool, true, false}
+use lib.Dec.{ltb}
 use borrow.Author.Tests.{ltb-true, ltb-false, lt-ltb, le-ltb, eq-eqb}
-use Rattle.wire.proofs.Tests.{test, clash, false-of}
+use Rattle.wire.proofs.Tests.{clash, false-of}
 use Rattle.wire.proofs.Order.{lex, lex-true, lex-less, lex-same, lex-trans, lex-weak, lex-asym, lex-tied, bytesBelow-irrefl, bytesBelow-trans, bytesBelow-tied}
 use Rattle.entry.specs.declared.Stamp.{Stamp}
 use Rattle.entry.specs.Order.{least, stampBelow}
 use Rattle.entry.specs.Entry.{Entry, Consistent, beats}
-use Rattle.entry.specs.Meaning.{StrictTotal, KeysStrictlyOrdered, StampsStrictlyOrdered, StampOrderByField, LeastIsLeast}
+use Rattle.entry.specs.Meaning.{KeysStrictlyOrdered, StampsStrictlyOrdered, StampOrderByField, LeastIsLeast}
 
 pub keys-strictly-ordered : KeysStrictlyOrdered
 keys-strictly-ordered = record { irreflexive = bytesBelow-irrefl; transitive = bytesBelow-trans; total = bytesBelow-tied }

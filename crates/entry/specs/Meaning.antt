@@ -1,9 +1,8 @@
 -- What the orders mean.
-use Prim.Native.Nat.{ℕ, _<_}
+use Prim.Native.Nat.{_<_}
 use mathlib.Core.Path.{_≡_}
 use mathlib.Core.Logic.{_⊎_, _↔_}
 use mathlib.Core.Bool.{Bool, true, false}
-use mathlib.Core.List.{List}
 use Rattle.entry.specs.declared.Stamp.{Stamp}
 use Rattle.entry.specs.Order.{least, stampBelow, keyBelow}
 

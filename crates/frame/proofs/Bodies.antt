@@ -1,7 +1,7 @@
 -- Messages and their bodies: which messages are taken, how long their bodies are, and that a body is read as its message.
 use mathlib.Core.Path.{_≡_, refl, sym, ap, ap₂, _∙_}
 use mathlib.Core.Logic.{inl, inr}
-use mathlib.Core.Bool.{Bool, true, false, _&&_, _||_}
+use mathlib.Core.Bool.{Bool, true, false, _&&_}
 use mathlib.Core.List.{List, [], _++_, append-assoc, append-nil}
 use Prim.Native.Nat.{ℕ, _+_, _^_, _≤_, _<_}
 use native.Mathlib.Omega.{arith}
@@ -11,20 +11,16 @@ use borrow.Author.Tests.{ltb-false, leb-false, eqb-false, eq-eqb, ne-eqb, lt-ltb
 use Rattle.wire.specs.Number.{be}
 use Rattle.wire.specs.Fill.{field}
 use Rattle.wire.proofs.Number.{length-be}
-use Rattle.wire.proofs.Tests.{test, clash}
+use Rattle.wire.proofs.Tests.{test, or-false}
 use Rattle.entry.specs.declared.Stamp.{Stamp}
-use Rattle.entry.specs.Key.{badKey, reserved}
+use Rattle.entry.specs.Key.{badKey}
 use Rattle.entry.specs.Order.{least}
 use Rattle.entry.specs.Entry.{Entry, entryOf, badFlag, refusalOf}
+use Rattle.entry.proofs.Accept.{key-short}
 use Rattle.frame.specs.Message.{Message, put, get, del, repl, ok, value, notFound, err, timeFault, keyFault, valueFault, argumentFault, messageRefusal, InRange}
 use Rattle.frame.specs.Layout.{counted, stampBytes, typeOf, body}
 use Rattle.frame.specs.Reading.{message, numberAt, klen, keyIn, valueIn, stampIn, entryIn, keyEnds, valueEnds, outcomeOf, readBody}
 use Rattle.frame.proofs.Fields.{field-between, number-between}
-
--- ---- a run of alternatives that fails
-pub or-false : (a b : Bool) → a || b ≡ false → (a ≡ false) × (b ≡ false)
-or-false true b h = clash refl h
-or-false false b h = (refl, h)
 
 -- ---- a message that is taken fails no check
 pub record Taken (m : Message) : Type 0 where
@@ -83,12 +79,6 @@ module _ (n : ℕ) where
   pub err-taken : (n ≡ 0 → ⊥) → n < 256 → messageRefusal (err n) ≡ 0
   unfolding messageRefusal timeFault keyFault valueFault argumentFault
   err-taken h l = rw (ne-eqb n 0 h, le-ltb 255 n (omega arith))
-
-pub key-short : (k : List ℕ) → badKey k ≡ false → length k ≤ 64
-unfolding badKey
-key-short k h =
-    let a = or-false (eqb (length k) 0 || ltb 64 (length k)) (reserved k) h in
-    ltb-false 64 (length k) (or-false (eqb (length k) 0) (ltb 64 (length k)) (a .0) .1)
 
 pub entry-short : (e : Entry) → refusalOf e ≡ 0 → (length (e .key) ≤ 64) × (length (e .value) ≤ 512)
 unfolding keyFault valueFault

@@ -25,7 +25,7 @@ use Rattle.frame.specs.Layout.{envelope}
 use Rattle.frame.specs.Writing.{answerOf, writeRefusal, writeAnswer, afterWrite, WritesFrame, Sealed}
 use Rattle.frame.proofs.Fields.{field-between}
 use Rattle.frame.proofs.Envelopes.{length-envelope}
-use Rattle.frame.proofs.Outcomes.{number-not-0}
+use Rattle.entry.proofs.Numbers.{number-not-0}
 
 -- ---- parts
 -- the w bytes from a to e are filled with f w

@@ -15,8 +15,9 @@ use Rattle.wire.proofs.Fill.{length-field}
 use Rattle.wire.proofs.Tests.{test, clash}
 use Rattle.entry.specs.declared.Stamp.{Stamp}
 use Rattle.entry.specs.declared.Refusal.{Refusal}
-use Rattle.entry.specs.declared.Refusal.the-variants.{BadKey, ValueTooLarge, BadFrame, NoRoom, BadStore, StoreFull, Overtaken, ClockSpent, BadTime, TooFew, UnknownPeer, Stale, TableFull, PeerKnown, OwnPeer, BadRing, BadArgument}
+use Rattle.entry.specs.declared.Refusal.the-variants.{ValueTooLarge, BadFrame}
 use Rattle.entry.specs.Refusal.{number}
+use Rattle.entry.proofs.Numbers.{number-not-0}
 use Rattle.entry.specs.Order.{least}
 use Rattle.entry.specs.Entry.{Entry, entryOf, badFlag, refusalOf}
 use Rattle.frame.specs.declared.answer.Read.{Read}
@@ -27,26 +28,6 @@ use Rattle.wire.proofs.Fields.{field-part, bytes-field}
 use Rattle.frame.proofs.Fields.{number-byte, number-lt}
 use Rattle.frame.proofs.Envelopes.{holding}
 use Rattle.frame.proofs.Checks.{ends-length}
-
--- no refusal has the number 0
-pub number-not-0 : (r : Refusal) → eqb (number r) 0 ≡ false
-number-not-0 BadKey = refl
-number-not-0 ValueTooLarge = refl
-number-not-0 BadFrame = refl
-number-not-0 NoRoom = refl
-number-not-0 BadStore = refl
-number-not-0 StoreFull = refl
-number-not-0 Overtaken = refl
-number-not-0 ClockSpent = refl
-number-not-0 BadTime = refl
-number-not-0 TooFew = refl
-number-not-0 UnknownPeer = refl
-number-not-0 Stale = refl
-number-not-0 TableFull = refl
-number-not-0 PeerKnown = refl
-number-not-0 OwnPeer = refl
-number-not-0 BadRing = refl
-number-not-0 BadArgument = refl
 
 -- ---- a message by its faults
 -- the number of the first of the key's and the value's faults, or 0

@@ -92,7 +92,7 @@ pub used-is : (s : List ℕ) → length (entriesOf s) ≡ usedOf s
 unfolding entriesOf
 used-is s = length-entries-in (usedOf s) (drop 16 s)
 
-next-slot : (i : ℕ) → 596 + 596 * i ≡ 596 * suc i
+pub next-slot : (i : ℕ) → 596 + 596 * i ≡ 596 * suc i
 next-slot i = omega arith
 
 entry-in : (i n : ℕ) (t : List ℕ) → i < n → drop i (entriesIn n t) ≡ slotEntry (field (596 * i) 596 t) ∷ drop (suc i) (entriesIn n t)

@@ -1,21 +1,17 @@
 -- A slot: its length, what is read back from it, and when bytes are the slot of their entry.
-use mathlib.Core.Path.{_≡_, refl, sym, ap, _∙_}
+use mathlib.Core.Path.{_≡_, sym, ap, _∙_}
 use Prim.Native.Nat.{ℕ, _+_, _^_, _≤_, _<_}
-use mathlib.Core.Bool.{Bool, true, false, cond, _||_}
-use mathlib.Core.List.{List, [], _∷_, _++_, append-assoc}
+use mathlib.Core.List.{List, _++_, append-assoc}
 use native.Mathlib.Omega.{arith}
-use native.Mathlib.Nat.{not-suc-le-zero}
 use lib.ListN.{length, length-append}
-use lib.Dec.{ltb, leb, eqb}
-use borrow.Author.Tests.{eq-eqb, eqb-false, leb-false, ltb-false}
+use borrow.Author.Tests.{eq-eqb}
 use Rattle.wire.specs.Number.{be, num}
 use Rattle.wire.specs.Fill.{zeros, padded, field}
-use Rattle.wire.proofs.Tests.{clash}
 use Rattle.wire.proofs.Number.{length-be, num-be, num-be-lt}
 use Rattle.wire.proofs.Fill.{length-zeros, length-padded, take-padded, field-here, field-past}
 use Rattle.checksum.specs.Crc32c.{crc32c}
-use Rattle.entry.specs.Key.{badKey, reserved}
-use Rattle.entry.specs.Entry.{Entry, badFlag, refusalOf}
+use Rattle.entry.specs.Entry.{Entry, refusalOf}
+use Rattle.entry.proofs.Accept.{accepted}
 use Rattle.image.specs.Slot.{slotWith}
 use Rattle.image.specs.Image.{slotHead, slotBody, slotBytes, keyIn, flagIn, valueIn, stampIn, slotEntry}
 
@@ -121,44 +117,6 @@ module _ (e : Entry) (f : Fit e) where
   slot-entry = λ i. record { key = in-key i; value = in-value i; flag = in-flag i; stamp = in-stamp i }
 
 -- ---- an acceptable entry
-or-false : (a b : Bool) → (a || b) ≡ false → (a ≡ false) × (b ≡ false)
-or-false true b h = clash refl h
-or-false false b h = (refl, h)
-
-passes : (a b c d : Bool) → cond {A = ℕ} a 9 (cond b 1 (cond c 2 (cond d 17 0))) ≡ 0 → (a ≡ false) × (b ≡ false) × (c ≡ false) × (d ≡ false)
-passes true b c d h = absurd (eqb-false 9 0 refl h)
-passes false true c d h = absurd (eqb-false 1 0 refl h)
-passes false false true d h = absurd (eqb-false 2 0 refl h)
-passes false false false true h = absurd (eqb-false 17 0 refl h)
-passes false false false false h = (refl, refl, refl, refl)
-
--- a list of no elements
-empty : (s : List ℕ) → length s ≤ 0 → s ≡ []
-empty [] h = refl
-empty (b ∷ s) h = absurd (not-suc-le-zero h)
-
-pub record Accepted (e : Entry) : Type 0 where
-  pub phys : e .stamp .phys < 2 ^ 48
-  pub good-key : badKey (e .key) ≡ false
-  pub key : length (e .key) ≤ 64
-  pub value : length (e .value) ≤ 512
-  pub flag : e .flag ≤ 1
-  pub tombstone : e .flag ≡ 1 → e .value ≡ []
-
-pub accepted : (e : Entry) → refusalOf e ≡ 0 → Accepted e
-unfolding refusalOf badKey badFlag
-accepted e h =
-    let t = passes (leb (2 ^ 48) (e .stamp .phys)) (badKey (e .key)) (ltb 512 (length (e .value))) (badFlag e) h in
-    let f = or-false (ltb 1 (e .flag)) _ (t .3) in
-    record {
-      phys = leb-false _ _ (t .0);
-      good-key = t .1;
-      key = ltb-false 64 _ (or-false (eqb (length (e .key)) 0) _ (or-false (eqb (length (e .key)) 0 || ltb 64 (length (e .key))) (reserved (e .key)) (t .1) .0) .1);
-      value = ltb-false _ _ (t .2);
-      flag = ltb-false 1 _ (f .0);
-      tombstone = λ o. empty (e .value) (ltb-false 0 _ (rw (eq-eqb (e .flag) 1 o) at (f .1)));
-    }
-
 -- an acceptable entry fits where its logical count and node id do
 pub fits : (e : Entry) → refusalOf e ≡ 0 → e .stamp .logical < 2 ^ 16 → e .stamp .node < 2 ^ 8 → Fit e
 fits e h l n =

@@ -34,7 +34,7 @@ use Rattle.wire.proofs.Fields.{be-field, field-split}
 use Rattle.image.proofs.Fields.{field-past-all}
 use Rattle.image.proofs.SlotLaws.{length-slot, Fit, fit-of, slot-entry, in-klen, in-vlen}
 use Rattle.image.proofs.Sealing.{zero-true, zero-is}
-use Rattle.image.proofs.ImageLaws.{AllFit, Sound, sound-is, is-sound, sound-fits, sound-length, used-is, entry-at, first-slot, other-slots, length-header, length-slots, flat-image, flat-header, past-header}
+use Rattle.image.proofs.ImageLaws.{AllFit, Sound, sound-is, is-sound, sound-fits, sound-length, used-is, entry-at, next-slot, first-slot, other-slots, length-header, length-slots, flat-image, flat-header, past-header}
 
 -- ---- a slot
 pub record Good (t : List ℕ) : Type 0 where
@@ -98,9 +98,6 @@ slots-good (e ∷ es) r f a =
     let t = and-true (acceptable e) (allAcceptable es) a in
     rw (first-slot e es r, other-slots e es r, good-slot e (f .0) (t .0)) (slots-good es r (f .1) (t .1))
 
-times : (i : ℕ) → 596 + 596 * i ≡ 596 * suc i
-times i = omega arith
-
 run-is : (n : ℕ) (t : List ℕ) → slotsSound n t ≡ true → t ≡ slots (entriesIn n t) ++ drop (596 * n) t
 unfolding slotsSound slots entriesIn
 run-is zero t h = refl
@@ -109,7 +106,7 @@ run-is (suc n) t h =
     let g = slot-good (take 596 t) (k .0) in
     sym (take-append-drop 596 t) ∙ ap₂ (λ (x y : List ℕ). x ++ y) (g .is) (run-is n (drop 596 t) (k .1))
     ∙ sym (append-assoc (slotBytes (slotEntry (take 596 t))) (slots (entriesIn n (drop 596 t))) (drop (596 * n) (drop 596 t)))
-    ∙ ap (λ (r : List ℕ). (slotBytes (slotEntry (take 596 t)) ++ slots (entriesIn n (drop 596 t))) ++ r) (drop-drop (596 * n) 596 t ∙ ap (λ (m : ℕ). drop m t) (times n))
+    ∙ ap (λ (r : List ℕ). (slotBytes (slotEntry (take 596 t)) ++ slots (entriesIn n (drop 596 t))) ++ r) (drop-drop (596 * n) 596 t ∙ ap (λ (m : ℕ). drop m t) (next-slot n))
 
 run-accepts : (n : ℕ) (t : List ℕ) → slotsSound n t ≡ true → allAcceptable (entriesIn n t) ≡ true
 unfolding slotsSound entriesIn allAcceptable acceptable

@@ -1,5 +1,5 @@
 -- What a refusal and a served write leave.
-use Prim.Native.Nat.{ℕ, _+_, _^_, _≤_, _<_}
+use Prim.Native.Nat.{ℕ, _+_, _^_, _<_}
 use native.Mathlib.Omega.{arith}
 use mathlib.Core.Path.{_≡_, refl, sym, ap, _∙_}
 use mathlib.Core.Logic.{inl, inr}
@@ -8,7 +8,7 @@ use mathlib.Core.List.{List, []}
 use mathlib.Core.Option.{Option, none, some}
 use lib.ListN.{length}
 use lib.Dec.{ltb, leb, eqb}
-use borrow.Author.Tests.{eqb-true, eqb-false, ltb-false, leb-false}
+use borrow.Author.Tests.{eqb-true, eqb-false, leb-false}
 use Rattle.wire.specs.Order.{sameBytes}
 use Rattle.wire.proofs.Tests.{test}
 use Rattle.wire.proofs.Order.{sameBytes-refl}
@@ -16,27 +16,28 @@ use Rattle.entry.specs.declared.Stamp.{Stamp}
 use Rattle.entry.specs.Key.{badKey}
 use Rattle.entry.specs.Entry.{Entry, entryOf, beats, refusalOf}
 use Rattle.entry.proofs.Order.{beats-asym}
+use Rattle.entry.proofs.Accept.{accepted}
 use Rattle.clock.specs.declared.Clock.{Clock}
 use Rattle.clock.specs.Clock.{Stepped, stampOf, raise, badTime, sendStep, receiveStep}
 use Rattle.clock.specs.Clock as clock
 use Rattle.clock.proofs.Rising.{send-rises}
 use Rattle.frame.specs.Message.{Message}
 use Rattle.frame.specs.Message as message
-use Rattle.image.specs.Image.{image, slotsOf, entriesOf, sound}
-use Rattle.image.proofs.SlotLaws.{accepted, fits}
+use Rattle.image.specs.Image.{slotsOf, entriesOf, sound}
 use Rattle.store.specs.Held.{_∈_, put, find}
-use Rattle.store.specs.Answer.{Answer}
+use Rattle.store.specs.Answer.{Answer, isRefused}
 use Rattle.store.specs.Answer as answer
 use Rattle.store.specs.Offer.{told, offerAnswer, afterOffer}
 use Rattle.store.specs.Lookup.{Finding, findingFor, valueFor, lookupAnswer, valuePart}
 use Rattle.store.specs.Lookup as lookup
-use Rattle.store.specs.Unchecked.{afterOfferUnchecked}
 use Rattle.store.proofs.HeldLaws.{Ascending, beats-irrefl, beats-stamp, better, find-put, find-mem, find-some}
-use Rattle.store.specs.Kept.{Keeps}
-use Rattle.store.proofs.OnSound.{ordered, placed, put-keeps, unchecked-on-sound}
-use Rattle.node.specs.Handler.{Served, done, refused, localRefusal, replicaRefusal, offered, writeLocally, replicate, gets, serve, serveFrame, settle, handled}
+use Rattle.store.specs.Kept.{Representable, Keeps}
+use Rattle.store.proofs.OnSound.{ordered, unchecked-on-sound}
+use Rattle.store.proofs.Keeping.{OfferTaken, offer-taken, offer-keeps}
+use Rattle.node.specs.Handler.{Served, done, refused, offerRefusal, offered, writeLocally, replicate, gets, serve, serveFrame, settle, handled}
 use Rattle.node.specs.Meaning.{RefusalChangesNothing, StaleReplicaChangesNothing, GetAfterPut, GetAfterDel, StillHeld, NeverLosesOrLowers}
 use Rattle.node.proofs.Settling.{unmoved, offer-unmoved}
+use Rattle.node.proofs.Telling.{AnswerNumbered, offer-numbered}
 
 -- ---- a refusal
 settled-refusal : (s : List ℕ) (c : Clock) (reply : List ℕ) (x : Served) → (settle s c reply x .refusal ≡ 0 → ⊥) → (settle s c reply x .store ≡ s) × (settle s c reply x .clock ≡ c)
@@ -58,31 +59,31 @@ no-done n s d m e = let z : _≡_ {A = ℕ} 0 1 = cc in absurd (omega arith)
 done-store : (s s′ : List ℕ) (c d : Clock) (m m′ : Message) → done s c m ≡ done s′ d m′ → s′ ≡ s
 done-store s s′ c d m m′ e = cc
 
-module _ (f : Answer → ℕ) (s : List ℕ) (e : Entry) where
-  pub offered-done : (n d : Clock) (s′ : List ℕ) (m : Message) → offered f s n e ≡ done s′ d m → (f (offerAnswer s e) ≡ 0) × (s′ ≡ afterOffer s e)
+module _ (k : ℕ) (s : List ℕ) (e : Entry) where
+  pub offered-done : (n d : Clock) (s′ : List ℕ) (m : Message) → offered k s n e ≡ done s′ d m → (offerRefusal k (offerAnswer s e) ≡ 0) × (s′ ≡ afterOffer s e)
   unfolding offered
-  offered-done n d s′ m h = elim (test (eqb (f (offerAnswer s e)) 0)) [
+  offered-done n d s′ m h = elim (test (eqb (offerRefusal k (offerAnswer s e)) 0)) [
     | inl p ↦ (eqb-true _ _ p, done-store (afterOffer s e) s′ n d message.ok m (rw p at h))
-    | inr p ↦ no-done (f (offerAnswer s e)) s′ d m (rw p at h)
+    | inr p ↦ no-done (offerRefusal k (offerAnswer s e)) s′ d m (rw p at h)
   ]
 
 pub replicate-done : (s : List ℕ) (e : Entry) (t : Stepped) (s′ : List ℕ) (d : Clock) (m : Message)
-    → replicate s e t ≡ done s′ d m → (replicaRefusal (offerAnswer s e) ≡ 0) × (s′ ≡ afterOffer s e)
+    → replicate s e t ≡ done s′ d m → (offerRefusal 0 (offerAnswer s e) ≡ 0) × (s′ ≡ afterOffer s e)
 unfolding replicate
-replicate-done s e (clock.next n) s′ d m h = offered-done replicaRefusal s e n d s′ m h
+replicate-done s e (clock.next n) s′ d m h = offered-done 0 s e n d s′ m h
 replicate-done s e (clock.refused j) s′ d m h = no-done j s′ d m h
 
 -- the entry of a local write that was served
 pub record Sent (s : List ℕ) (e : Stamp → Entry) (t : Stepped) (s′ : List ℕ) : Type 0 where
   pub next : Clock
   pub step : t ≡ clock.next next
-  pub zero : localRefusal (offerAnswer s (e (stampOf next))) ≡ 0
+  pub zero : offerRefusal 7 (offerAnswer s (e (stampOf next))) ≡ 0
   pub left : s′ ≡ afterOffer s (e (stampOf next))
 
 pub write-done : (s : List ℕ) (e : Stamp → Entry) (t : Stepped) (s′ : List ℕ) (d : Clock) (m : Message) → writeLocally s e t ≡ done s′ d m → Sent s e t s′
 unfolding writeLocally
 write-done s e (clock.next n) s′ d m h =
-    let r = offered-done localRefusal s (e (stampOf n)) n d s′ m h in
+    let r = offered-done 7 s (e (stampOf n)) n d s′ m h in
     record { next = n; step = refl; zero = r .0; left = r .1 }
 write-done s e (clock.refused j) s′ d m h = no-done j s′ d m h
 
@@ -102,47 +103,32 @@ stale-replica-changes-nothing s s′ c d now e h m k f b r =
     ∙ sym (u .after e) ∙ offer-unmoved s e (ap unmoved (u .offer e) ∙ stale s e h k f b)
 
 -- ---- the entry that a served write leaves
-pub record Taken (s : List ℕ) (e : Entry) : Type 0 where
-  pub acceptable : refusalOf e ≡ 0
-  pub answer : offerAnswer s e ≡ told e (find (e .key) (entriesOf s))
-  pub room : length (put e (entriesOf s)) ≤ slotsOf s
-  pub after : afterOffer s e ≡ image (slotsOf s) (put e (entriesOf s))
+served-taken : (k : ℕ) (a : Answer) → AnswerNumbered a → offerRefusal k a ≡ 0 → isRefused a ≡ false
+unfolding offerRefusal isRefused
+served-taken k answer.stored n z = refl
+served-taken k answer.replaced n z = refl
+served-taken k answer.kept n z = refl
+served-taken k answer.merged n z = refl
+served-taken k (answer.refused j) n z = absurd (omega (arith, n .0))
 
-module _ (s : List ℕ) (h : sound s ≡ true) (e : Entry) where
-  pub taken : (f : Answer → ℕ) → ((n : ℕ) → f (answer.refused n) ≡ n) → f (offerAnswer s e) ≡ 0 → Taken s e
-  unfolding offerAnswer afterOfferUnchecked
-  taken f told-as z = elim (test (eqb (refusalOf e) 0)) [
-    | inl p ↦ elim (test (ltb (slotsOf s) (length (put e (entriesOf s))))) [
-      | inl q ↦ let a : _≡_ {A = ℕ} 6 0 = sym (told-as 6) ∙ (rw (h, p, q) at z) in absurd (eqb-false 6 0 refl a)
-      | inr q ↦ record {
-        acceptable = eqb-true _ _ p;
-        answer = rw (h, p, q);
-        room = ltb-false _ _ q;
-        after = sym (unchecked-on-sound s h .after e) ∙ rw p (placed s h e .1 ∙ rw q);
-      }
-    ]
-    | inr p ↦ let a : refusalOf e ≡ 0 = sym (told-as (refusalOf e)) ∙ (rw (h, p) at z) in absurd (eqb-false _ 0 p a)
-  ]
+module _ (s : List ℕ) (h : sound s ≡ true) (e : Entry) (k : ℕ) (z : offerRefusal k (offerAnswer s e) ≡ 0) where
+  not-refused : isRefused (offerAnswer s e) ≡ false
+  not-refused = served-taken k (offerAnswer s e) (offer-numbered s e) z
 
-  pub kept-on : Taken s e → e .stamp .logical < 2 ^ 16 → e .stamp .node < 2 ^ 8 → Keeps s (put e (entriesOf s)) (afterOffer s e)
-  kept-on t l n = rw (t .after) (put-keeps s e h (t .acceptable) (fits e (t .acceptable) l n) (t .room))
+  taken : OfferTaken s e
+  taken = offer-taken s e not-refused
+
+  kept-on : Representable e → Keeps s (put e (entriesOf s)) (afterOffer s e)
+  kept-on r = rw not-refused at (offer-keeps s e h r)
 
 -- a local write that was taken is the better entry
-local-better : (e : Entry) (o : Option Entry) → localRefusal (told e o) ≡ 0 → better e o ≡ some e
-unfolding localRefusal told better
+local-better : (e : Entry) (o : Option Entry) → offerRefusal 7 (told e o) ≡ 0 → better e o ≡ some e
+unfolding offerRefusal told better
 local-better e none z = refl
 local-better e (some g) z = elim (test (beats e g)) [
   | inl p ↦ rw p
   | inr p ↦ let a : _≡_ {A = ℕ} 7 0 = rw p at z in absurd (eqb-false 7 0 refl a)
 ]
-
-local-refused : (n : ℕ) → localRefusal (answer.refused n) ≡ n
-unfolding localRefusal
-local-refused n = refl
-
-replica-refused : (n : ℕ) → replicaRefusal (answer.refused n) ≡ n
-unfolding replicaRefusal
-replica-refused n = refl
 
 -- the logical count of a sent stamp fits its field
 no-step : {A : Type 0} (n : ℕ) (d : Clock) → clock.refused n ≡ clock.next d → A
@@ -214,25 +200,25 @@ module _ (s : List ℕ) (h : sound s ≡ true) where
     abbrev e : Entry
     e = entryOf k v f (stampOf (w .next))
 
-    t : Taken s e
-    t = taken s h e localRefusal local-refused (w .zero)
+    t : OfferTaken s e
+    t = taken s h e 7 (w .zero)
 
     keeps : Keeps s (put e (entriesOf s)) s′
     keeps =
         let o : w .next .node ≡ c .node = send-rises c (w .next) now (w .step) .node in
-        keeps-as (put e (entriesOf s)) s′ (afterOffer s e) (w .left) (kept-on s h e t (send-fits c (w .next) now (w .step)) (rw o n))
+        keeps-as (put e (entriesOf s)) s′ (afterOffer s e) (w .left) (kept-on s h e 7 (w .zero) (record { logical = send-fits c (w .next) now (w .step); node = rw o n }))
 
     pub write-safe : Safe s s′
     write-safe = kept-safe e s′ keeps
 
     pub written : Holds s′ k v f
     written =
-        let b = local-better e (find k (entriesOf s)) (ap localRefusal (sym (t .answer)) ∙ w .zero) in
+        let b = local-better e (find k (entriesOf s)) (ap (offerRefusal 7) (sym (t .told)) ∙ w .zero) in
         record {
           stamp = stampOf (w .next);
           held = ap (find k) (keeps .holds) ∙ find-put k e (entriesOf s) (ordered s h) ∙ rw (sameBytes-refl k) b;
           is-sound = keeps .sound;
-          good-key = accepted e (t .acceptable) .good-key;
+          good-key = accepted e (t .ok) .good-key;
         }
 
 pub get-after-put : GetAfterPut
@@ -269,7 +255,7 @@ never-loses-or-lowers s s′ c d now (message.get k) m h n i r =
 never-loses-or-lowers s s′ c d now (message.del k) m h n i r = write-safe s h c n now k [] 1 s′ (write-done s (entryOf k [] 1) (sendStep c now) s′ d m r)
 never-loses-or-lowers s s′ c d now (message.repl e) m h n i r =
     let o = replicate-done s e (receiveStep c (e .stamp .phys) (e .stamp .logical) now) s′ d m r in
-    kept-safe s h e s′ (keeps-as s h (put e (entriesOf s)) s′ (afterOffer s e) (o .1) (kept-on s h e (taken s h e replicaRefusal replica-refused (o .0)) (i .0) (i .1)))
+    kept-safe s h e s′ (keeps-as s h (put e (entriesOf s)) s′ (afterOffer s e) (o .1) (kept-on s h e 0 (o .0) (record { logical = i .0; node = i .1 })))
 never-loses-or-lowers s s′ c d now message.ok m h n i r = no-done 3 s′ d m r
 never-loses-or-lowers s s′ c d now (message.value v) m h n i r = no-done 3 s′ d m r
 never-loses-or-lowers s s′ c d now message.notFound m h n i r = no-done 3 s′ d m r

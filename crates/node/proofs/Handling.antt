@@ -1,20 +1,19 @@
 -- The handler's checks in their order.
 use Prim.Native.Nat.{ℕ, _≤_, _<_, _^_}
-use mathlib.Core.Path.{_≡_, refl, sym, ap, _∙_}
-use mathlib.Core.Bool.{Bool, true, false, cond, not, _||_}
+use mathlib.Core.Path.{_≡_, refl}
+use mathlib.Core.Bool.{true, false}
 use mathlib.Core.List.{List}
 use lib.ListN.{length}
-use lib.Dec.{ltb, leb}
+use lib.Dec.{leb}
 use borrow.Author.Tests.{lt-ltb, le-ltb, le-leb, lt-leb}
 use Rattle.clock.specs.declared.Clock.{Clock}
-use Rattle.clock.specs.Clock.{badTime}
 use Rattle.frame.specs.Reading.{Outcome, typeIn, readFrame}
 use Rattle.image.specs.Image.{sound}
 use Rattle.node.specs.declared.Handled.{Handled}
 use Rattle.node.specs.declared.Reply.the-variants as reply
 use Rattle.entry.specs.declared.Refusal.the-variants.{NoRoom}
-use Rattle.node.specs.Handler.{Served, refused, serveOutcome, serveFrame, settle, handled}
-use Rattle.node.specs.Answer.{Leaves, Handles}
+use Rattle.node.specs.Handler.{Served, refused, serveOutcome, serveFrame, handled}
+use Rattle.node.specs.Answer.{Handles}
 use Rattle.node.specs.Request.{Refuses, Settles}
 use Rattle.node.proofs.Settling.{settled-refused, settled-as}
 

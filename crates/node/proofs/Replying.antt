@@ -1,27 +1,27 @@
 -- A message that a writer takes, written to a reply that has room for any frame.
 use Prim.Native.Nat.{ℕ, _≤_, _<_}
 use native.Mathlib.Omega.{arith}
-use mathlib.Core.Path.{_≡_, refl, sym, ap, _∙_}
-use mathlib.Core.Bool.{Bool, true, false, cond}
+use mathlib.Core.Path.{_≡_, refl, _∙_}
+use mathlib.Core.Bool.{false}
 use mathlib.Core.List.{List}
-use lib.ListN.{length, getD, take, drop, drop-of-length-le}
-use lib.Dec.{ltb, leb, eqb}
-use borrow.Author.Tests.{le-ltb, eq-eqb, ne-eqb, lt-leb}
+use lib.ListN.{length, getD, drop-of-length-le}
+use lib.Dec.{leb}
+use borrow.Author.Tests.{le-ltb}
 use Rattle.wire.specs.Number.{num, numFrom}
 use Rattle.wire.specs.Fill.{field}
 use Rattle.wire.proofs.Fields.{num-byte}
 use Rattle.entry.specs.Refusal.{number}
 use Rattle.entry.specs.declared.Refusal.{Refusal}
-use Rattle.entry.specs.declared.Refusal.the-variants.{BadKey, ValueTooLarge, BadFrame, NoRoom, BadStore, StoreFull, Overtaken, ClockSpent, BadTime, TooFew, UnknownPeer, Stale, TableFull, PeerKnown, OwnPeer, BadRing, BadArgument}
+use Rattle.entry.proofs.Numbers.{number-range}
 use Rattle.clock.specs.declared.Clock.{Clock}
 use Rattle.frame.specs.declared.answer.Wrote.{Wrote}
 use Rattle.frame.specs.declared.answer.Wrote.the-variants as wrote
-use Rattle.frame.specs.Message.{Message, ok, value, notFound, err, messageRefusal, timeFault, keyFault, valueFault, argumentFault}
+use Rattle.frame.specs.Message.{Message, ok, notFound, err, messageRefusal, timeFault, keyFault, valueFault, argumentFault}
 use Rattle.frame.specs.Layout.{frameOf}
 use Rattle.frame.specs.Reading.{typeIn, numberAt}
-use Rattle.frame.specs.Writing.{Answer, bytes, refused, answerOf, writeRefusal, writeAnswer, afterWrite, WritesFrame, Writes}
+use Rattle.frame.specs.Writing.{bytes, answerOf, writeRefusal, writeAnswer, afterWrite, Writes}
+use Rattle.frame.proofs.Bodies.{err-taken}
 use Rattle.frame.proofs.RoundTrips.{frame-at-most-600}
-use Rattle.node.specs.declared.Handled.{Handled}
 use Rattle.node.specs.declared.Reply.{Reply}
 use Rattle.node.specs.Handler.{over}
 use Rattle.node.specs.Answer.{replyNumber}
@@ -59,36 +59,8 @@ pub not-found-taken : messageRefusal notFound ≡ 0
 unfolding messageRefusal timeFault keyFault valueFault argumentFault
 not-found-taken = refl
 
-pub value-taken : (v : List ℕ) → length v ≤ 512 → messageRefusal (value v) ≡ 0
-unfolding messageRefusal timeFault keyFault valueFault argumentFault
-value-taken v h = rw (le-ltb 512 (length v) h)
-
-pub err-taken : (n : ℕ) → 0 < n → n ≤ 255 → messageRefusal (err n) ≡ 0
-unfolding messageRefusal timeFault keyFault valueFault argumentFault
-err-taken n h k = let e : n ≡ 0 → ⊥ = omega arith in rw (ne-eqb n 0 e, le-ltb 255 n k)
-
--- every refusal has a number that an ERR frame takes
-pub number-range : (r : Refusal) → (0 < number r) × (number r ≤ 255)
-number-range BadKey = omega arith
-number-range ValueTooLarge = omega arith
-number-range BadFrame = omega arith
-number-range NoRoom = omega arith
-number-range BadStore = omega arith
-number-range StoreFull = omega arith
-number-range Overtaken = omega arith
-number-range ClockSpent = omega arith
-number-range BadTime = omega arith
-number-range TooFew = omega arith
-number-range UnknownPeer = omega arith
-number-range Stale = omega arith
-number-range TableFull = omega arith
-number-range PeerKnown = omega arith
-number-range OwnPeer = omega arith
-number-range BadRing = omega arith
-number-range BadArgument = omega arith
-
 pub refusal-taken : (r : Refusal) → messageRefusal (err (number r)) ≡ 0
-refusal-taken r = err-taken (number r) (number-range r .0) (number-range r .1)
+refusal-taken r = let e : number r ≡ 0 → ⊥ = omega (arith, number-range r .0) in err-taken (number r) e (omega (arith, number-range r .1))
 
 -- ---- the TYPE of a frame
 pub type-short : (s : List ℕ) → length s < 3 → leb 16 (typeIn s) ≡ false

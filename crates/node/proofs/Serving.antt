@@ -3,7 +3,7 @@ use Prim.Native.Nat.{ℕ, _+_, _-_, _≤_, _<_}
 use native.Mathlib.Omega.{arith}
 use mathlib.Core.Path.{_≡_, refl, sym, ap, ap₂, _∙_}
 use mathlib.Core.Logic.{inl, inr}
-use mathlib.Core.Bool.{Bool, true, false, cond, not}
+use mathlib.Core.Bool.{true}
 use mathlib.Core.List.{List, []}
 use mathlib.Core.Option.{Option, none, some}
 use lib.ListN.{length, take, drop}
@@ -17,32 +17,31 @@ use Rattle.entry.specs.Entry.{Entry, entryOf}
 use Rattle.clock.specs.declared.Clock.{Clock}
 use Rattle.clock.specs.Clock.{Stepped, stampOf, sendStep, receiveStep}
 use Rattle.clock.specs.Clock as clock
-use Rattle.clock.specs.Answer.{Given, stamp, refusal, given, clockAfter, refusalOf}
+use Rattle.clock.specs.Answer.{stamp, refusal, given, clockAfter, refusalOf}
 use Rattle.clock.proofs.Steps.{Numbered}
 use Rattle.frame.specs.declared.answer.Read.{Read}
 use Rattle.frame.specs.declared.answer.Read.the-variants as read
-use Rattle.frame.specs.Message.{Message}
 use Rattle.frame.specs.Reading.{meaning, Within}
 use Rattle.image.specs.Image.{sound, entriesOf}
 use Rattle.image.proofs.ImageLaws.{sound-is, sound-fits}
 use Rattle.store.specs.Held.{find}
-use Rattle.store.specs.Lookup.{Finding, findingOf, valueFor, lookupAnswer, valuePart}
+use Rattle.store.specs.Lookup.{findingOf, valueFor, lookupAnswer, valuePart}
 use Rattle.store.specs.declared.Looked.{Looked}
 use Rattle.store.specs.Unchecked.{lookupUnchecked, valueUnchecked}
 use Rattle.store.proofs.HeldLaws.{find-some}
 use Rattle.store.proofs.Members.{all-fit}
 use Rattle.store.proofs.OnSound.{unchecked-on-sound}
-use Rattle.node.specs.Handler.{Served, done, refused, offered, localRefusal, replicaRefusal, writeLocally, replicate, gets, serve, serveOutcome}
+use Rattle.node.specs.Handler.{refused, offered, writeLocally, replicate, gets, serve, serveOutcome}
 use Rattle.node.specs.Request.{kindOf, refusalIn}
 
 -- ---- the clock's answer
 module _ (store : List ℕ) (c n : Clock) where
   -- a send that gave a stamp
-  pub sent : (e : Stamp → Entry) (t : Stepped) (s : Stamp) → n ≡ clockAfter c t → stamp s ≡ given t → offered localRefusal store n (e s) ≡ writeLocally store e t
+  pub sent : (e : Stamp → Entry) (t : Stepped) (s : Stamp) → n ≡ clockAfter c t → stamp s ≡ given t → offered 7 store n (e s) ≡ writeLocally store e t
   unfolding writeLocally
   sent e (clock.next d) s k g =
       let f : s ≡ stampOf d = cc in
-      ap₂ (λ (a : Clock) (b : Stamp). offered localRefusal store a (e b)) k f
+      ap₂ (λ (a : Clock) (b : Stamp). offered 7 store a (e b)) k f
   sent e (clock.refused j) s k g = let z : _≡_ {A = ℕ} 0 1 = cc in absurd (omega arith)
 
   pub not-sent : (e : Stamp → Entry) (t : Stepped) (j : ℕ) → refusal j ≡ given t → refused j ≡ writeLocally store e t
@@ -51,9 +50,9 @@ module _ (store : List ℕ) (c n : Clock) where
   not-sent e (clock.refused i) j g = let f : j ≡ i = cc in ap refused f
 
   -- a receive that was taken
-  pub received : (e : Entry) (t : Stepped) → Numbered t → n ≡ clockAfter c t → 0 ≡ refusalOf t → offered replicaRefusal store n e ≡ replicate store e t
+  pub received : (e : Entry) (t : Stepped) → Numbered t → n ≡ clockAfter c t → 0 ≡ refusalOf t → offered 0 store n e ≡ replicate store e t
   unfolding replicate
-  received e (clock.next d) p k g = ap (λ (a : Clock). offered replicaRefusal store a e) k
+  received e (clock.next d) p k g = ap (λ (a : Clock). offered 0 store a e) k
   received e (clock.refused j) p k g = absurd (omega arith)
 
   pub not-received : (e : Entry) (t : Stepped) (j : ℕ) → 0 < j → j ≡ refusalOf t → refused j ≡ replicate store e t

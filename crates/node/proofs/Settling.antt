@@ -1,16 +1,15 @@
 -- What a part of the handler leaves, from what it wrote and what the store answered.
-use Prim.Native.Nat.{ℕ, _≤_, _<_}
+use Prim.Native.Nat.{ℕ, _<_}
 use native.Mathlib.Omega.{arith}
 use mathlib.Core.Path.{_≡_, refl, sym, ap, _∙_}
 use mathlib.Core.Logic.{inl, inr}
-use mathlib.Core.Bool.{Bool, true, false, cond, not}
+use mathlib.Core.Bool.{Bool, true, false}
 use mathlib.Core.List.{List}
 use mathlib.Core.Option.{Option, none, some}
-use lib.ListN.{length}
-use lib.Dec.{ltb, leb, eqb}
-use borrow.Author.Tests.{eq-eqb, ne-eqb, ltb-false}
+use lib.Dec.{leb, eqb}
+use borrow.Author.Tests.{ne-eqb}
 use Rattle.wire.proofs.Tests.{test, clash}
-use Rattle.entry.specs.Entry.{Entry, Acceptable, beats, refusalOf}
+use Rattle.entry.specs.Entry.{Entry, beats, refusalOf}
 use Rattle.clock.specs.declared.Clock.{Clock}
 use Rattle.frame.specs.Message.{Message, ok}
 use Rattle.image.specs.Image.{sound, slotsOf, usedOf, entriesOf}
@@ -21,8 +20,7 @@ use Rattle.store.specs.Offer.{offerAnswer, afterOffer}
 use Rattle.store.specs.Unchecked.{seen, placeAnswer, afterPlace, offerUnchecked, afterOfferUnchecked}
 use Rattle.store.proofs.OnSound.{unchecked-on-sound}
 use Rattle.node.specs.declared.Handled.{Handled}
-use Rattle.node.specs.Handler.{Served, done, refused, offered, settle}
-use Rattle.node.specs.Answer.{Leaves}
+use Rattle.node.specs.Handler.{Served, done, refused, offerRefusal, offered, settle}
 use Rattle.node.specs.Request.{Replies, Refuses, Settles}
 
 module _ (s : List ℕ) (c : Clock) (reply : List ℕ) (r : Handled) (store′ reply′ : List ℕ) where
@@ -66,18 +64,18 @@ offer-unmoved s e h = elim (test (eqb (refusalOf e) 0)) [
 ]
 
 module _ (s : List ℕ) (h : sound s ≡ true) (e : Entry) (o : Offered) (told : answerOf o ≡ offerUnchecked s e)
-    (store′ : List ℕ) (left : store′ ≡ afterOfferUnchecked s e) (c next : Clock) (reply reply′ : List ℕ) (r : Handled) (f : Answer → ℕ) where
-  answered : f (answerOf o) ≡ f (offerAnswer s e)
-  answered = ap f (told ∙ unchecked-on-sound s h .offer e)
+    (store′ : List ℕ) (left : store′ ≡ afterOfferUnchecked s e) (c next : Clock) (reply reply′ : List ℕ) (r : Handled) (k : ℕ) where
+  answered : offerRefusal k (answerOf o) ≡ offerRefusal k (offerAnswer s e)
+  answered = ap (offerRefusal k) (told ∙ unchecked-on-sound s h .offer e)
 
-  pub accepted : f (answerOf o) ≡ 0 → Replies next ok 0 reply r reply′ → Settles s c reply (offered f s next e) r store′ reply′
+  pub accepted : offerRefusal k (answerOf o) ≡ 0 → Replies next ok 0 reply r reply′ → Settles s c reply (offered k s next e) r store′ reply′
   unfolding offered
-  accepted z p = settled-as s c reply r store′ reply′ (done (afterOffer s e) next ok) (offered f s next e)
+  accepted z p = settled-as s c reply r store′ reply′ (done (afterOffer s e) next ok) (offered k s next e)
       (rw (sym answered ∙ z)) (settled s c reply r store′ reply′ (afterOffer s e) next ok (left ∙ unchecked-on-sound s h .after e) p)
 
-  pub declined : (n : ℕ) → f (answerOf o) ≡ n → 0 < n → unmoved (answerOf o) ≡ true → Refuses c n reply r reply′ → Settles s c reply (offered f s next e) r store′ reply′
+  pub declined : (n : ℕ) → offerRefusal k (answerOf o) ≡ n → 0 < n → unmoved (answerOf o) ≡ true → Refuses c n reply r reply′ → Settles s c reply (offered k s next e) r store′ reply′
   unfolding offered
-  declined n z k u p =
+  declined n z q u p =
       let ne : n ≡ 0 → ⊥ = omega arith in
-      settled-as s c reply r store′ reply′ (refused n) (offered f s next e)
+      settled-as s c reply r store′ reply′ (refused n) (offered k s next e)
       (rw (sym answered ∙ z, ne-eqb n 0 ne)) (settled-refused s c reply r store′ reply′ n (left ∙ offer-unmoved s e (ap unmoved (sym told) ∙ u)) p)

@@ -1,5 +1,5 @@
 -- Every reply of the handler reads back as a message.
-use Prim.Native.Nat.{ℕ, _+_, _^_, _≤_, _<_}
+use Prim.Native.Nat.{ℕ, _^_, _≤_, _<_}
 use native.Mathlib.Omega.{arith}
 use mathlib.Core.Path.{_≡_, refl, ap, _∙_}
 use mathlib.Core.Logic.{inl, inr}
@@ -15,13 +15,15 @@ use Rattle.entry.specs.declared.Stamp.{Stamp}
 use Rattle.entry.specs.Key.{badKey}
 use Rattle.entry.specs.Entry.{Entry, entryOf, beats, badFlag, refusalOf}
 use Rattle.clock.specs.declared.Clock.{Clock}
-use Rattle.clock.specs.Clock.{Stepped, stampOf, later, raise, withSkew, badTime, sendStep, receiveInRange, receiveStep}
+use Rattle.clock.specs.Clock.{Stepped, stampOf, badTime, sendStep, receiveStep}
 use Rattle.clock.specs.Clock as clock
+use Rattle.clock.proofs.Steps.{Numbered as StepNumbered, send-numbered, receive-numbered}
 use Rattle.frame.specs.Message.{Message, messageRefusal, InRange, keyFault, valueFault}
 use Rattle.frame.specs.Message as message
 use Rattle.frame.specs.Layout.{frameOf}
 use Rattle.frame.specs.Reading.{Outcome, envelopeHolds, typeIn, bodyIn, outcomeOf, readBody, readFrame}
 use Rattle.frame.specs.Reading as reading
+use Rattle.frame.proofs.Bodies.{value-taken, err-taken}
 use Rattle.frame.proofs.RoundTrips.{frame-at-most-600, written-reads-back}
 use Rattle.image.specs.Image.{slotsOf, entriesOf, sound}
 use Rattle.store.specs.Held.{put, find}
@@ -30,9 +32,9 @@ use Rattle.store.specs.Answer as answer
 use Rattle.store.specs.Offer.{told, offerAnswer}
 use Rattle.store.specs.Lookup.{Finding, findingFor, lookupAnswer, valuePart}
 use Rattle.store.specs.Lookup as lookup
-use Rattle.node.specs.Handler.{Served, done, refused, localRefusal, replicaRefusal, offered, writeLocally, replicate, gets, serve, serveOutcome, serveFrame, over, settle, handled}
+use Rattle.node.specs.Handler.{Served, done, refused, offerRefusal, offered, writeLocally, replicate, gets, serve, serveOutcome, serveFrame, over, settle, handled}
 use Rattle.node.specs.Meaning.{ReadsBack, ReplyReadsBack, ReplyAtMost600}
-use Rattle.node.proofs.Replying.{ok-taken, not-found-taken, value-taken, err-taken}
+use Rattle.node.proofs.Replying.{ok-taken, not-found-taken}
 use Rattle.node.proofs.Serving.{value-fits}
 
 -- what holds of both branches holds of a choice between them
@@ -44,28 +46,8 @@ either P false x y p q = q
 abbrev pub Numbered : ℕ → Type 0
 Numbered n = (0 < n) × (n ≤ 17)
 
--- ---- the clock's refusals
-abbrev StepNumbered : Stepped → Type 0
-StepNumbered (clock.next c) = Unit {0}
-StepNumbered (clock.refused n) = Numbered n
-
-raise-numbered : (c : Clock) (p l : ℕ) → StepNumbered (raise c p l)
-unfolding raise
-raise-numbered c p l = either StepNumbered (leb 65535 l) _ _ (omega arith) tt
-
-send-numbered : (c : Clock) (now : ℕ) → StepNumbered (sendStep c now)
-unfolding sendStep
-send-numbered c now = either StepNumbered (badTime now || badTime (c .phys)) _ _ (omega arith)
-    (either StepNumbered (ltb (c .phys) now) _ _ tt (raise-numbered c (c .phys) (c .logical)))
-
-receive-numbered : (c : Clock) (p l now : ℕ) → StepNumbered (receiveStep c p l now)
-unfolding receiveStep receiveInRange
-receive-numbered c p l now = either StepNumbered (badTime now || badTime (c .phys) || badTime p) _ _ (omega arith)
-    (either StepNumbered (ltb (now + 2000) p) _ _ (raise-numbered (withSkew c) (later (c .phys) now) (c .logical))
-    (either StepNumbered (ltb (c .phys) p) _ _ (raise-numbered c p l) (raise-numbered c (c .phys) (c .logical))))
-
 -- ---- the store's refusals
-abbrev AnswerNumbered : Answer → Type 0
+abbrev pub AnswerNumbered : Answer → Type 0
 AnswerNumbered answer.stored = Unit {0}
 AnswerNumbered answer.replaced = Unit {0}
 AnswerNumbered answer.kept = Unit {0}
@@ -86,7 +68,7 @@ refusal-small e =
     (either P (ltb 512 (length (e .value))) 2 _ (omega arith)
     (either P (badFlag e) 17 0 (omega arith) (omega arith))))
 
-offer-numbered : (s : List ℕ) (e : Entry) → AnswerNumbered (offerAnswer s e)
+pub offer-numbered : (s : List ℕ) (e : Entry) → AnswerNumbered (offerAnswer s e)
 unfolding offerAnswer
 offer-numbered s e = either AnswerNumbered (not (sound s)) _ _ (omega arith) (elim (test (eqb (refusalOf e) 0)) [
   | inl p ↦ rw p (either AnswerNumbered (ltb (slotsOf s) (length (put e (entriesOf s)))) _ _ (omega arith) (told-numbered e (find (e .key) (entriesOf s))))
@@ -146,38 +128,30 @@ abbrev pub Tellable : Served → Type 0
 Tellable (done s c m) = (messageRefusal m ≡ 0) × InRange m
 Tellable (refused n) = Numbered n
 
-local-numbered : (a : Answer) → AnswerNumbered a → (localRefusal a ≡ 0 → ⊥) → Numbered (localRefusal a)
-unfolding localRefusal
-local-numbered answer.stored n z = absurd (z refl)
-local-numbered answer.replaced n z = absurd (z refl)
-local-numbered answer.kept n z = omega arith
-local-numbered answer.merged n z = absurd (z refl)
-local-numbered (answer.refused j) n z = n
-
-replica-numbered : (a : Answer) → AnswerNumbered a → (replicaRefusal a ≡ 0 → ⊥) → Numbered (replicaRefusal a)
-unfolding replicaRefusal
-replica-numbered answer.stored n z = absurd (z refl)
-replica-numbered answer.replaced n z = absurd (z refl)
-replica-numbered answer.kept n z = absurd (z refl)
-replica-numbered answer.merged n z = absurd (z refl)
-replica-numbered (answer.refused j) n z = n
+refusal-numbered : (k : ℕ) (a : Answer) → k ≤ 17 → AnswerNumbered a → (offerRefusal k a ≡ 0 → ⊥) → Numbered (offerRefusal k a)
+unfolding offerRefusal
+refusal-numbered k answer.stored l n z = absurd (z refl)
+refusal-numbered k answer.replaced l n z = absurd (z refl)
+refusal-numbered k answer.kept l n z = omega arith
+refusal-numbered k answer.merged l n z = absurd (z refl)
+refusal-numbered k (answer.refused j) l n z = n
 
 module _ (s : List ℕ) where
-  offered-tellable : (f : Answer → ℕ) (c : Clock) (e : Entry) → ((f (offerAnswer s e) ≡ 0 → ⊥) → Numbered (f (offerAnswer s e))) → Tellable (offered f s c e)
+  offered-tellable : (k : ℕ) (c : Clock) (e : Entry) → k ≤ 17 → Tellable (offered k s c e)
   unfolding offered
-  offered-tellable f c e n = elim (test (eqb (f (offerAnswer s e)) 0)) [
+  offered-tellable k c e l = elim (test (eqb (offerRefusal k (offerAnswer s e)) 0)) [
     | inl p ↦ rw p (ok-taken, tt)
-    | inr p ↦ rw p (n (eqb-false (f (offerAnswer s e)) 0 p))
+    | inr p ↦ rw p (refusal-numbered k (offerAnswer s e) l (offer-numbered s e) (eqb-false (offerRefusal k (offerAnswer s e)) 0 p))
   ]
 
   write-tellable : (e : Stamp → Entry) (t : Stepped) → StepNumbered t → Tellable (writeLocally s e t)
   unfolding writeLocally
-  write-tellable e (clock.next c) n = offered-tellable localRefusal c (e (stampOf c)) (local-numbered (offerAnswer s (e (stampOf c))) (offer-numbered s (e (stampOf c))))
+  write-tellable e (clock.next c) n = offered-tellable 7 c (e (stampOf c)) (omega arith)
   write-tellable e (clock.refused j) n = n
 
   replicate-tellable : (e : Entry) (t : Stepped) → StepNumbered t → Tellable (replicate s e t)
   unfolding replicate
-  replicate-tellable e (clock.next c) n = offered-tellable replicaRefusal c e (replica-numbered (offerAnswer s e) (offer-numbered s e))
+  replicate-tellable e (clock.next c) n = offered-tellable 0 c e (omega arith)
   replicate-tellable e (clock.refused j) n = n
 
   gets-tellable : (c : Clock) (v : List ℕ) (x : Finding) → length v ≤ 512 → FindingNumbered x → Tellable (gets s c v x)
@@ -216,6 +190,9 @@ module _ (s : List ℕ) where
   ]
 
 -- ---- the whole call
+err-numbered : (n : ℕ) → Numbered n → messageRefusal (message.err n) ≡ 0
+err-numbered n h = let e : n ≡ 0 → ⊥ = omega (arith, h .0) in err-taken n e (omega (arith, h .1))
+
 written-reads : (m : Message) (reply : List ℕ) → messageRefusal m ≡ 0 → InRange m → readFrame (take (length (frameOf m)) (over (frameOf m) reply)) ≡ reading.message m
 unfolding over
 written-reads m reply t i = ap readFrame (take-at (frameOf m) (drop (length (frameOf m)) reply) (length (frameOf m)) refl) ∙ written-reads-back m t i
@@ -224,7 +201,7 @@ settled-reads : (s : List ℕ) (c : Clock) (reply : List ℕ) (x : Served) → T
 unfolding settle
 settled-reads s c reply (done s′ c′ m) t = record { says = m; reads = written-reads m reply (t .0) (t .1); numbered = omega arith; tells = λ h. absurd (h refl) }
 settled-reads s c reply (refused n) t =
-    record { says = message.err n; reads = written-reads (message.err n) reply (err-taken n (t .0) (omega arith)) tt; numbered = t .1; tells = λ h. refl }
+    record { says = message.err n; reads = written-reads (message.err n) reply (err-numbered n t) tt; numbered = t .1; tells = λ h. refl }
 
 pub reply-reads-back : ReplyReadsBack
 unfolding handled
@@ -233,7 +210,7 @@ reply-reads-back s c now frame reply room = rw (le-ltb (length reply) 600 room) 
 settled-short : (s : List ℕ) (c : Clock) (reply : List ℕ) (x : Served) → Tellable x → settle s c reply x .written ≤ 600
 unfolding settle
 settled-short s c reply (done s′ c′ m) t = frame-at-most-600 m (t .0)
-settled-short s c reply (refused n) t = frame-at-most-600 (message.err n) (err-taken n (t .0) (omega arith))
+settled-short s c reply (refused n) t = frame-at-most-600 (message.err n) (err-numbered n t)
 
 pub reply-at-most-600 : ReplyAtMost600
 unfolding handled

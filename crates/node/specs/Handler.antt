@@ -1,6 +1,6 @@
 -- The request handler: the next store and clock, the reply buffer and the answer, for every input.
 use Prim.Native.Nat.{ℕ}
-use mathlib.Core.Bool.{Bool, cond, not, _||_}
+use mathlib.Core.Bool.{cond, not, _||_}
 use mathlib.Core.List.{List, [], _++_}
 use lib.ListN.{length, drop}
 use lib.Dec.{ltb, leb, eqb}
@@ -26,35 +26,28 @@ pub data Served : Type 0 where
   refused : ℕ → Served
 
 -- ---- writing
--- a local write must become the held entry: kept is OVERTAKEN, 7
-unfoldable pub localRefusal : Answer → ℕ
-localRefusal answer.stored = 0
-localRefusal answer.replaced = 0
-localRefusal answer.kept = 7
-localRefusal answer.merged = 0
-localRefusal (answer.refused n) = n
-
--- a replicated entry may be kept
-unfoldable pub replicaRefusal : Answer → ℕ
-replicaRefusal answer.stored = 0
-replicaRefusal answer.replaced = 0
-replicaRefusal answer.kept = 0
-replicaRefusal answer.merged = 0
-replicaRefusal (answer.refused n) = n
+-- the refusal of an offer's answer, 0 for none, where k is that of an entry that is not taken since the held one stays
+unfoldable pub offerRefusal : ℕ → Answer → ℕ
+offerRefusal k answer.stored = 0
+offerRefusal k answer.replaced = 0
+offerRefusal k answer.kept = k
+offerRefusal k answer.merged = 0
+offerRefusal k (answer.refused n) = n
 
 -- an entry is offered, and the clock that its step gave is kept: reply OK
-unfoldable pub offered : (Answer → ℕ) → List ℕ → Clock → Entry → Served
-offered f store next e =
-    cond (eqb (f (offerAnswer store e)) 0) (done (afterOffer store e) next message.ok) (refused (f (offerAnswer store e)))
+unfoldable pub offered : ℕ → List ℕ → Clock → Entry → Served
+offered k store next e =
+    cond (eqb (offerRefusal k (offerAnswer store e)) 0) (done (afterOffer store e) next message.ok)
+    (refused (offerRefusal k (offerAnswer store e)))
 
--- PUT and DEL send the clock and offer the entry with its stamp
+-- PUT and DEL send the clock and offer the entry with its stamp; it must become the held entry, else OVERTAKEN, 7
 unfoldable pub writeLocally : List ℕ → (Stamp → Entry) → Stepped → Served
-writeLocally store e (clock.next c) = offered localRefusal store c (e (stampOf c))
+writeLocally store e (clock.next c) = offered 7 store c (e (stampOf c))
 writeLocally store e (clock.refused n) = refused n
 
--- REPL receives the stamp and offers the entry as it came
+-- REPL receives the stamp and offers the entry as it came; the held entry may stay
 unfoldable pub replicate : List ℕ → Entry → Stepped → Served
-replicate store e (clock.next c) = offered replicaRefusal store c e
+replicate store e (clock.next c) = offered 0 store c e
 replicate store e (clock.refused n) = refused n
 
 -- ---- reading

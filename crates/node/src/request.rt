@@ -20,6 +20,7 @@ use store::lookup_unchecked;
 use store::offer_unchecked;
 use store::value_unchecked;
 ghost use mathlib.Core.Path.{_≡_};
+ghost use mathlib.Core.Bool.{cond};
 ghost use Prim.Native.Nat.{_≤_};
 ghost use lib.ListN.{length};
 ghost use Rattle.entry.specs.Refusal.{number};
@@ -27,7 +28,7 @@ ghost use Rattle.entry.specs.Entry.{entryOf};
 ghost use Rattle.clock.specs.Clock.{sendStep, receiveStep};
 ghost use Rattle.frame.specs.Message.{ok, value as valueOf, notFound};
 ghost use Rattle.store.specs.Lookup.{lookupAnswer, valuePart};
-ghost use Rattle.node.specs.Handler.{offered, localRefusal, replicaRefusal, writeLocally, replicate, gets};
+ghost use Rattle.node.specs.Handler.{offered, writeLocally, replicate, gets};
 ghost use Rattle.node.specs.Request.{Ready, Replies, Refuses, Settles, Serves, Asks, kindOf, refusalIn, bytesOf};
 
 // How many bytes a writer wrote.
@@ -105,8 +106,8 @@ fn get(store: &[u8], clock: Clock, key: &[u8], reply: &mut [u8]) -> Handled
     }
 }
 
-// Offers an entry of a local write, whose step gave the clock `next`.
-fn offer_local(
+// Offers an entry whose step gave the clock `next`. A local write is overtaken where the held entry stays; a replica is served all the same.
+fn offer_entry(
     store: &mut [u8],
     clock: Clock,
     next: Clock,
@@ -114,16 +115,23 @@ fn offer_local(
     value: &[u8],
     flag: u8,
     stamp: Stamp,
+    local: bool,
     reply: &mut [u8],
 ) -> Handled
     requires { ⌜ Ready (now store) (now reply) ⌝ }
-    ensures { λ r. ⌜ Settles (now (store .entry)) clock (now (reply .entry)) (offered localRefusal (now (store .entry)) next (entryOf (now (key .entry)) (now (value .entry)) flag stamp)) r (now (store .exit)) (now (reply .exit)) ⌝ }
+    ensures { λ r. ⌜ Settles (now (store .entry)) clock (now (reply .entry)) (offered (cond local 7 0) (now (store .entry)) next (entryOf (now (key .entry)) (now (value .entry)) flag stamp)) r (now (store .exit)) (now (reply .exit)) ⌝ }
 {
     let answer = offer_unchecked(store, key, value, flag, stamp);
     match answer {
         Offered::Stored => accept(next, reply),
         Offered::Replaced => accept(next, reply),
-        Offered::Kept => refuse(clock, Refusal::Overtaken, reply),
+        Offered::Kept => {
+            if local {
+                refuse(clock, Refusal::Overtaken, reply)
+            } else {
+                accept(next, reply)
+            }
+        }
         Offered::Refused(refusal) => refuse(clock, refusal, reply),
     }
 }
@@ -145,7 +153,7 @@ fn write_locally(
     let next = sent.clock;
     let answer = sent.answer;
     match answer {
-        SendAnswer::Stamped(stamp) => offer_local(
+        SendAnswer::Stamped(stamp) => offer_entry(
             store,
             clock,
             next,
@@ -153,32 +161,10 @@ fn write_locally(
             value,
             flag,
             stamp,
+            true,
             reply,
         ),
         SendAnswer::Refused(refusal) => refuse(clock, refusal, reply),
-    }
-}
-
-// Offers a replicated entry, whose step gave the clock `next`.
-fn offer_replica(
-    store: &mut [u8],
-    clock: Clock,
-    next: Clock,
-    key: &[u8],
-    value: &[u8],
-    flag: u8,
-    stamp: Stamp,
-    reply: &mut [u8],
-) -> Handled
-    requires { ⌜ Ready (now store) (now reply) ⌝ }
-    ensures { λ r. ⌜ Settles (now (store .entry)) clock (now (reply .entry)) (offered replicaRefusal (now (store .entry)) next (entryOf (now (key .entry)) (now (value .entry)) flag stamp)) r (now (store .exit)) (now (reply .exit)) ⌝ }
-{
-    let answer = offer_unchecked(store, key, value, flag, stamp);
-    match answer {
-        Offered::Stored => accept(next, reply),
-        Offered::Replaced => accept(next, reply),
-        Offered::Kept => accept(next, reply),
-        Offered::Refused(refusal) => refuse(clock, refusal, reply),
     }
 }
 
@@ -200,7 +186,7 @@ fn take_replica(
     let next = receipt.clock;
     let answer = receipt.answer;
     match answer {
-        ReceiveAnswer::Received => offer_replica(
+        ReceiveAnswer::Received => offer_entry(
             store,
             clock,
             next,
@@ -208,6 +194,7 @@ fn take_replica(
             value,
             flag,
             stamp,
+            false,
             reply,
         ),
         ReceiveAnswer::Refused(refusal) => refuse(clock, refusal, reply),

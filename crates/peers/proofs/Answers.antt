@@ -9,15 +9,12 @@ use lib.ListN.{length, getD, set, drop, take-append-drop, length-take}
 use lib.Seq.{set-append-left}
 use lib.Dec.{eqb, ltb, leb}
 use borrow.Author.Tests.{lt-ltb, le-ltb, ltb-false, le-leb, lt-leb, leb-false, not-false}
-use Rattle.entry.specs.declared.Refusal.{Refusal}
-use Rattle.entry.specs.declared.Refusal.the-variants.{BadKey, ValueTooLarge, BadFrame, NoRoom, BadStore, StoreFull, Overtaken, ClockSpent, BadTime, TooFew, UnknownPeer, Stale, TableFull, PeerKnown, OwnPeer, BadRing, BadArgument}
-use Rattle.entry.specs.Refusal.{number}
 use Rattle.peers.specs.declared.Row.{Row}
 use Rattle.peers.specs.declared.PeerTable.{PeerTable}
 use Rattle.peers.specs.declared.Changed.{Changed}
 use Rattle.peers.specs.Table.{rowsOf, hasRow, indexOf, heldIncarnation, onRow, isOwn, soundTable, ownAlive}
 use Rattle.peers.specs.Event.{Gives, unlessRefused, noRow, rowSet, withRows, freshAnswer, addAnswer, rowAnswer, heardAnswer, reportedAnswer, tickAnswer}
-use Rattle.peers.proofs.Cases.{cases}
+use Rattle.wire.proofs.Tests.{cases, or-false}
 use Rattle.peers.proofs.Scan.{found, not-found, row-at}
 use Rattle.peers.proofs.Sound.{sound-parts}
 
@@ -29,26 +26,6 @@ refused-gives c t u n m g e q = record { table = rw (← q, e) (g .table); answe
 pub done-gives : (c : Changed) (t u : PeerTable) (m : ℕ) → Gives c u 0 → 0 ≡ m → Gives c (unlessRefused m t u) m
 unfolding unlessRefused
 done-gives c t u m g q = record { table = rw (← q) (g .table); answer = g .answer ∙ q }
-
--- no refusal has the number 0
-pub refusal-number : (w : Refusal) → eqb (number w) 0 ≡ false
-refusal-number BadKey = refl
-refusal-number ValueTooLarge = refl
-refusal-number BadFrame = refl
-refusal-number NoRoom = refl
-refusal-number BadStore = refl
-refusal-number StoreFull = refl
-refusal-number Overtaken = refl
-refusal-number ClockSpent = refl
-refusal-number BadTime = refl
-refusal-number TooFew = refl
-refusal-number UnknownPeer = refl
-refusal-number Stale = refl
-refusal-number TableFull = refl
-refusal-number PeerKnown = refl
-refusal-number OwnPeer = refl
-refusal-number BadRing = refl
-refusal-number BadArgument = refl
 
 pub fresh-9 : (now : ℕ) → 2 ^ 48 ≤ now → 9 ≡ freshAnswer now
 unfolding freshAnswer
@@ -186,14 +163,6 @@ passed : (b : Bool) (k m : ℕ) → 0 ≡ cond b (suc k) m → (b ≡ false) × 
 passed true k m z = absurd (omega arith)
 passed false k m z = (refl, z)
 
-or-false-first : (a b : Bool) → (a || b) ≡ false → a ≡ false
-or-false-first true b h = h
-or-false-first false b h = refl
-
-or-false-second : (a b : Bool) → (a || b) ≡ false → b ≡ false
-or-false-second true b h = absurd (true≢false h)
-or-false-second false b h = h
-
 pub fresh-time : (now : ℕ) → 0 ≡ freshAnswer now → now < 2 ^ 48
 unfolding freshAnswer
 fresh-time now z = leb-false (2 ^ 48) now (passed (leb (2 ^ 48) now) 8 0 z .0)
@@ -240,10 +209,10 @@ module _ (i s n now : ℕ) (t : PeerTable) (z : 0 ≡ reportedAnswer i s n now t
   peer-time = leb-false (2 ^ 48) now (passed (leb (2 ^ 48) now) 8 (cond (ltb 2 s || not (soundTable t)) 17 (rowAnswer i n (rowsOf t))) z .0)
 
   pub peer-range : s ≤ 2
-  peer-range = ltb-false 2 s (or-false-first (ltb 2 s) (not (soundTable t)) (passed (ltb 2 s || not (soundTable t)) 16 (rowAnswer i n (rowsOf t)) after-time .0))
+  peer-range = ltb-false 2 s (or-false (ltb 2 s) (not (soundTable t)) (passed (ltb 2 s || not (soundTable t)) 16 (rowAnswer i n (rowsOf t)) after-time .0) .0)
 
   pub peer-sound : soundTable t ≡ true
-  peer-sound = not-false _ (or-false-second (ltb 2 s) (not (soundTable t)) (passed (ltb 2 s || not (soundTable t)) 16 (rowAnswer i n (rowsOf t)) after-time .0))
+  peer-sound = not-false _ (or-false (ltb 2 s) (not (soundTable t)) (passed (ltb 2 s || not (soundTable t)) 16 (rowAnswer i n (rowsOf t)) after-time .0) .1)
 
   pub peer-row : 0 ≡ rowAnswer i n (rowsOf t)
   peer-row = passed (ltb 2 s || not (soundTable t)) 16 (rowAnswer i n (rowsOf t)) after-time .1

@@ -17,9 +17,9 @@ use Rattle.peers.specs.Table.{rowsOf, hasRow, heldState, distinct}
 use Rattle.peers.specs.Admitted.{admitsRow, admitsAmong, admits, valuesFrom, admittedFlags}
 use Rattle.peers.specs.Event.{noRow}
 use Rattle.peers.specs.Meaning.{FlagsSayAdmitted, HomeAdmitsEveryRow, StandingAdmitsNotDown}
-use Rattle.peers.proofs.Cases.{cases}
+use Rattle.wire.proofs.Tests.{cases, and-true as parts}
 use Rattle.peers.proofs.Scan.{next-row, past-end}
-use Rattle.peers.proofs.Sound.{first-of, second-of, sound-parts}
+use Rattle.peers.proofs.Sound.{sound-parts}
 
 length-values : (f : ℕ → Bool) (k n : ℕ) → length (valuesFrom f k n) ≡ n
 unfolding valuesFrom
@@ -97,10 +97,10 @@ standing-rows : (rows : List Row) (i : ℕ) → distinct rows ≡ true → admit
 unfolding admitsAmong hasRow heldState distinct
 standing-rows [] i h = refl
 standing-rows (r ∷ rows) i h =
-    let d : hasRow (r .id) rows ≡ false = not-true _ (first-of (not (hasRow (r .id) rows)) (distinct rows) h) in
+    let d : hasRow (r .id) rows ≡ false = not-true _ (parts (not (hasRow (r .id) rows)) (distinct rows) h .0) in
     cases (eqb (r .id) i)
     (λ e. rw (e, no-row-none Standing rows i (rw (eqb-true (r .id) i e) at d)) (or-false _))
-    (λ e. rw e (standing-rows rows i (second-of (not (hasRow (r .id) rows)) (distinct rows) h)))
+    (λ e. rw e (standing-rows rows i (parts (not (hasRow (r .id) rows)) (distinct rows) h .1)))
 
 pub standing-admits-not-down : StandingAdmitsNotDown
 unfolding admits

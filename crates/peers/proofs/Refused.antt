@@ -14,7 +14,7 @@ use Rattle.peers.specs.Row.{newRow, heardRow, reportedRow, tickRow}
 use Rattle.peers.specs.Table.{rowsOf, onRow, onOthers}
 use Rattle.peers.specs.Event.{unlessRefused, withRows, addedTable, addAnswer, afterAdd, heardAnswer, afterHeard, reportedAnswer, afterReported, tickAnswer, afterTick}
 use Rattle.peers.specs.Meaning.{RefusalsKeepTheTable, RowsPastTheLastKept}
-use Rattle.peers.proofs.Cases.{cases}
+use Rattle.wire.proofs.Tests.{cases}
 
 module _ (n : ℕ) (t u : PeerTable) where
   pub if-refused : (n ≡ 0 → ⊥) → unlessRefused n t u ≡ t

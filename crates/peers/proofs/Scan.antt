@@ -9,7 +9,7 @@ use lib.ListN.{length, getD, drop, length-take, length-drop, drop-of-length-le}
 use lib.Seq.{drop-cons, getD-take}
 use lib.Dec.{eqb}
 use borrow.Author.Tests.{eq-eqb, ne-eqb}
-use Rattle.peers.proofs.Cases.{cases}
+use Rattle.wire.proofs.Tests.{cases}
 use Rattle.peers.specs.declared.Row.{Row}
 use Rattle.peers.specs.declared.PeerTable.{PeerTable}
 use Rattle.peers.specs.Row.{inRange}

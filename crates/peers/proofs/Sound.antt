@@ -1,11 +1,12 @@
 -- When a table is sound, check by check, and what each check of a sound table tells.
 use Prim.Native.Nat.{_≤_, _<_}
 use native.Mathlib.Omega.{arith}
-use mathlib.Core.Path.{_≡_, refl, sym}
-use mathlib.Core.Bool.{Bool, true, false, _&&_, true≢false}
+use mathlib.Core.Path.{_≡_}
+use mathlib.Core.Bool.{Bool, true, false, _&&_}
 use lib.ListN.{length, getD}
 use lib.Dec.{leb, eqb}
 use borrow.Author.Tests.{leb-true, le-leb, lt-leb, eq-eqb, ne-eqb}
+use Rattle.wire.proofs.Tests.{and-true}
 use Rattle.peers.specs.declared.PeerTable.{PeerTable}
 use Rattle.peers.specs.Table.{rowsOf, distinct, ownAlive, rowsInRange, soundTable}
 use Rattle.peers.specs.Event.{noRow}
@@ -13,14 +14,6 @@ use Rattle.peers.proofs.Scan.{as-counted, next-row}
 
 pub both : {a b : Bool} → a ≡ true → b ≡ true → a && b ≡ true
 both p q = rw (p, q)
-
-pub first-of : (a b : Bool) → a && b ≡ true → a ≡ true
-first-of true b h = refl
-first-of false b h = h
-
-pub second-of : (a b : Bool) → a && b ≡ true → b ≡ true
-second-of true b h = h
-second-of false b h = absurd (true≢false (sym h))
 
 pub record Sound (t : PeerTable) : Type 0 where
   pub some : 1 ≤ t .count
@@ -35,15 +28,15 @@ module _ (t : PeerTable) where
   sound-parts h =
       let counted = leb 1 (t .count) && leb (t .count) 10 in
       let listed = counted && distinct (rowsOf t) in
-      let a = first-of (listed && ownAlive (rowsOf t)) (rowsInRange (rowsOf t)) h in
-      let d = first-of listed (ownAlive (rowsOf t)) a in
-      let c = first-of counted (distinct (rowsOf t)) d in
+      let a = and-true (listed && ownAlive (rowsOf t)) (rowsInRange (rowsOf t)) h .0 in
+      let d = and-true listed (ownAlive (rowsOf t)) a .0 in
+      let c = and-true counted (distinct (rowsOf t)) d .0 in
       record {
-        some = leb-true _ _ (first-of (leb 1 (t .count)) (leb (t .count) 10) c);
-        most = leb-true _ _ (second-of (leb 1 (t .count)) (leb (t .count) 10) c);
-        apart = second-of counted (distinct (rowsOf t)) d;
-        alive = second-of listed (ownAlive (rowsOf t)) a;
-        range = second-of (listed && ownAlive (rowsOf t)) (rowsInRange (rowsOf t)) h;
+        some = leb-true _ _ (and-true (leb 1 (t .count)) (leb (t .count) 10) c .0);
+        most = leb-true _ _ (and-true (leb 1 (t .count)) (leb (t .count) 10) c .1);
+        apart = and-true counted (distinct (rowsOf t)) d .1;
+        alive = and-true listed (ownAlive (rowsOf t)) a .1;
+        range = and-true (listed && ownAlive (rowsOf t)) (rowsInRange (rowsOf t)) h .1;
       }
 
   pub sound-of : Sound t → soundTable t ≡ true

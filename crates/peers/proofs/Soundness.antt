@@ -15,8 +15,8 @@ use Rattle.peers.specs.Row.{inRange, newRow, heardRow, reportedRow, tick
 use Rattle.peers.specs.Table.{rowsOf, hasRow, onRow, onOthers, isOwn, distinct, ownAlive, rowsInRange, soundTable}
 use Rattle.peers.specs.Event.{withRows, emptyTable, freshAnswer, freshTable, afterFresh, addedTable, addAnswer, afterAdd, heardAnswer, afterHeard, reportedAnswer, afterReported, tickAnswer, afterTick}
 use Rattle.peers.specs.Meaning.{SoundnessKept, AddAppends}
-use Rattle.peers.proofs.Cases.{cases}
-use Rattle.peers.proofs.Sound.{both, first-of, second-of, Sound, sound-parts, sound-of}
+use Rattle.wire.proofs.Tests.{cases, and-true}
+use Rattle.peers.proofs.Sound.{both, Sound, sound-parts, sound-of}
 use Rattle.peers.proofs.Answers.{fresh-time, add-time, add-unknown, add-room, heard-is, peer-time, peer-range, peer-row, row-other}
 use Rattle.peers.proofs.Refused.{if-done, either-way, length-on-row, length-on-others, rows-changed}
 
@@ -67,19 +67,19 @@ module _ (f : Row → Row) (k : KeepsRow f) where
   unfolding onRow rowsInRange
   range-on-row i [] h = refl
   range-on-row i (r ∷ rows) h =
-      let a = first-of (inRange r) (rowsInRange rows) h in
-      let b = second-of (inRange r) (rowsInRange rows) h in
+      let a = and-true (inRange r) (rowsInRange rows) h .0 in
+      let b = and-true (inRange r) (rowsInRange rows) h .1 in
       cases (eqb (r .id) i) (λ e. rw e (both (k .range r a) b)) (λ e. rw e (both a (range-on-row i rows b)))
 
   range-map : (rows : List Row) → rowsInRange rows ≡ true → rowsInRange (map f rows) ≡ true
   unfolding rowsInRange
   range-map [] h = refl
-  range-map (r ∷ rows) h = both (k .range r (first-of (inRange r) (rowsInRange rows) h)) (range-map rows (second-of (inRange r) (rowsInRange rows) h))
+  range-map (r ∷ rows) h = both (k .range r (and-true (inRange r) (rowsInRange rows) h .0)) (range-map rows (and-true (inRange r) (rowsInRange rows) h .1))
 
   range-on-others : (rows : List Row) → rowsInRange rows ≡ true → rowsInRange (onOthers f rows) ≡ true
   unfolding onOthers rowsInRange
   range-on-others [] h = refl
-  range-on-others (own ∷ rows) h = both (first-of (inRange own) (rowsInRange rows) h) (range-map rows (second-of (inRange own) (rowsInRange rows) h))
+  range-on-others (own ∷ rows) h = both (and-true (inRange own) (rowsInRange rows) h .0) (range-map rows (and-true (inRange own) (rowsInRange rows) h .1))
 
   alive-on-row : (i : ℕ) (rows : List Row) → isOwn i rows ≡ false → ownAlive (onRow i f rows) ≡ ownAlive rows
   unfolding onRow isOwn ownAlive
@@ -120,7 +120,7 @@ unfolding heardRow inRange
 heard-keeps n now h =
     record {
       id = λ r. refl;
-      range = λ r e. lt-ltb (max (r .«last_seen») now) (2 ^ 48) (omega (arith, ltb-true (r .«last_seen») (2 ^ 48) (second-of (leb (r .state) 2) (ltb (r .«last_seen») (2 ^ 48)) e)));
+      range = λ r e. lt-ltb (max (r .«last_seen») now) (2 ^ 48) (omega (arith, ltb-true (r .«last_seen») (2 ^ 48) (and-true (leb (r .state) 2) (ltb (r .«last_seen») (2 ^ 48)) e .1)));
     }
 
 reported-keeps : (s n now : ℕ) → s ≤ 2 → now < 2 ^ 48 → KeepsRow (reportedRow s n now)
@@ -129,8 +129,8 @@ reported-keeps s n now w h =
     record {
       id = λ r. cases (ltb (r .incarnation) n) (λ p. rw p) (λ p. rw p);
       range = λ r e.
-          let a : r .state ≤ 2 = leb-true _ _ (first-of (leb (r .state) 2) (ltb (r .«last_seen») (2 ^ 48)) e) in
-          let b : r .«last_seen» < 2 ^ 48 = ltb-true _ _ (second-of (leb (r .state) 2) (ltb (r .«last_seen») (2 ^ 48)) e) in
+          let a : r .state ≤ 2 = leb-true _ _ (and-true (leb (r .state) 2) (ltb (r .«last_seen») (2 ^ 48)) e .0) in
+          let b : r .«last_seen» < 2 ^ 48 = ltb-true _ _ (and-true (leb (r .state) 2) (ltb (r .«last_seen») (2 ^ 48)) e .1) in
           cases (ltb (r .incarnation) n)
           (λ p. cases (eqb s 0)
           (λ q. rw (p, q) (both (le-leb s 2 w) (lt-ltb (max (r .«last_seen») now) (2 ^ 48) (omega arith))))
@@ -154,8 +154,8 @@ tick-keeps now =
       id = λ r. refl;
       range = λ r e.
           both
-          (le-leb _ _ (ticked-state _ (r .state) (leb-true _ _ (first-of (leb (r .state) 2) (ltb (r .«last_seen») (2 ^ 48)) e))))
-          (second-of (leb (r .state) 2) (ltb (r .«last_seen») (2 ^ 48)) e);
+          (le-leb _ _ (ticked-state _ (r .state) (leb-true _ _ (and-true (leb (r .state) 2) (ltb (r .«last_seen») (2 ^ 48)) e .0))))
+          (and-true (leb (r .state) 2) (ltb (r .«last_seen») (2 ^ 48)) e .1);
     }
 
 -- ---- a row added
@@ -167,7 +167,7 @@ alive-append (own ∷ rows) r h = h
 range-append : (rows : List Row) (r : Row) → rowsInRange rows ≡ true → inRange r ≡ true → rowsInRange (rows ++ r ∷ []) ≡ true
 unfolding rowsInRange
 range-append [] r h e = both e refl
-range-append (q ∷ rows) r h e = both (first-of (inRange q) (rowsInRange rows) h) (range-append rows r (second-of (inRange q) (rowsInRange rows) h) e)
+range-append (q ∷ rows) r h e = both (and-true (inRange q) (rowsInRange rows) h .0) (range-append rows r (and-true (inRange q) (rowsInRange rows) h .1) e)
 
 has-append : (i : ℕ) (rows : List Row) (r : Row) → hasRow i rows ≡ false → (r .id ≡ i → ⊥) → hasRow i (rows ++ r ∷ []) ≡ false
 unfolding hasRow
@@ -181,8 +181,8 @@ distinct-append : (rows : List Row) (r : Row) → distinct rows ≡ true → has
 unfolding distinct hasRow
 distinct-append [] r h n = refl
 distinct-append (q ∷ rows) r h n =
-    let a = not-true _ (first-of (not (hasRow (q .id) rows)) (distinct rows) h) in
-    let b = second-of (not (hasRow (q .id) rows)) (distinct rows) h in
+    let a = not-true _ (and-true (not (hasRow (q .id) rows)) (distinct rows) h .0) in
+    let b = and-true (not (hasRow (q .id) rows)) (distinct rows) h .1 in
     cases (eqb (q .id) (r .id))
     (λ e. absurd (true≢false (rw e at n)))
     (λ e. both (ap not (has-append (q .id) rows r a (λ z. eqb-false (q .id) (r .id) e (sym z)))) (distinct-append rows r b (rw e at n)))

@@ -16,9 +16,9 @@ use Rattle.peers.specs.Row.{ageAt, inRange, tickState, tickRow}
 use Rattle.peers.specs.Table.{rowsOf, onOthers, rowsInRange}
 use Rattle.peers.specs.Event.{noRow, withRows, tickAnswer, afterTick}
 use Rattle.peers.specs.Meaning.{rowAt, ageState, TickNeverImproves, TickRowByRow, TickToTheWorse}
-use Rattle.peers.proofs.Cases.{cases}
+use Rattle.wire.proofs.Tests.{cases, and-true}
 use Rattle.peers.proofs.Scan.{row-at}
-use Rattle.peers.proofs.Sound.{first-of, second-of, sound-parts}
+use Rattle.peers.proofs.Sound.{sound-parts}
 use Rattle.peers.proofs.Answers.{tick-sound}
 use Rattle.peers.proofs.Refused.{if-done, either-way}
 
@@ -108,19 +108,19 @@ tick-to-the-worse now r h = worst-state (ageAt (r .«last_seen») now) (r .state
 
 never-better : (now : ℕ) (r : Row) → inRange r ≡ true → r .state ≤ tickRow now r .state
 unfolding inRange
-never-better now r e = rw (tick-to-the-worse now r (leb-true (r .state) 2 (first-of (leb (r .state) 2) (ltb (r .«last_seen») (2 ^ 48)) e))) (omega arith)
+never-better now r e = rw (tick-to-the-worse now r (leb-true (r .state) 2 (and-true (leb (r .state) 2) (ltb (r .«last_seen») (2 ^ 48)) e .0))) (omega arith)
 
 map-never-better : (now : ℕ) (rows past : List Row) (k : ℕ) → rowsInRange rows ≡ true → getD (rows ++ past) k noRow .state ≤ getD (map (tickRow now) rows ++ past) k noRow .state
 unfolding rowsInRange
 map-never-better now [] past k h = le-refl _
-map-never-better now (r ∷ rows) past zero h = never-better now r (first-of (inRange r) (rowsInRange rows) h)
-map-never-better now (r ∷ rows) past (suc k) h = map-never-better now rows past k (second-of (inRange r) (rowsInRange rows) h)
+map-never-better now (r ∷ rows) past zero h = never-better now r (and-true (inRange r) (rowsInRange rows) h .0)
+map-never-better now (r ∷ rows) past (suc k) h = map-never-better now rows past k (and-true (inRange r) (rowsInRange rows) h .1)
 
 others-never-better : (now : ℕ) (rows past : List Row) (k : ℕ) → rowsInRange rows ≡ true → getD (rows ++ past) k noRow .state ≤ getD (onOthers (tickRow now) rows ++ past) k noRow .state
 unfolding onOthers rowsInRange
 others-never-better now [] past k h = le-refl _
 others-never-better now (own ∷ rows) past zero h = le-refl _
-others-never-better now (own ∷ rows) past (suc k) h = map-never-better now rows past k (second-of (inRange own) (rowsInRange rows) h)
+others-never-better now (own ∷ rows) past (suc k) h = map-never-better now rows past k (and-true (inRange own) (rowsInRange rows) h .1)
 
 pub tick-never-improves : TickNeverImproves
 unfolding afterTick withRows

@@ -1,5 +1,5 @@
 -- Every point of the table holds, by computation.
-use mathlib.Core.Path.{_≡_, refl}
+use mathlib.Core.Path.{refl}
 use Rattle.wire.specs.Number.{be}
 use Rattle.wire.specs.Fill.{zeros}
 use Rattle.clock.specs.Clock.{raise, withSkew, sendStep, receiveInRange, receiveStep}

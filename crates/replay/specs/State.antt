@@ -1,5 +1,5 @@
 -- What holds of the replay program's buffers from turn to turn.
-use Prim.Native.Nat.{ℕ, _+_, _≤_}
+use Prim.Native.Nat.{ℕ, _≤_}
 use Rattle.replay.specs.declared.State.{State}
 
 -- the input bytes that are not yet taken, and the output bytes that are not yet written, lie within buffers of these lengths

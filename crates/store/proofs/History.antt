@@ -13,8 +13,9 @@ use borrow.Author.Tests.{eqb-true, eqb-false}
 use Rattle.wire.proofs.Tests.{test}
 use Rattle.entry.specs.Key.{badKey}
 use Rattle.entry.specs.Entry.{Entry, Acceptable, Consistent}
+use Rattle.entry.proofs.Accept.{accepted}
 use Rattle.image.specs.Image.{image, slotsOf, entriesOf, sound}
-use Rattle.image.proofs.SlotLaws.{Fit, accepted, fits}
+use Rattle.image.proofs.SlotLaws.{Fit, fits}
 use Rattle.image.proofs.ImageLaws.{sound-image, slots-of-image, entries-of-image}
 use Rattle.store.specs.Held.{_∈_, find}
 use Rattle.store.specs.Answer.{stored, replaced, kept, isRefused}

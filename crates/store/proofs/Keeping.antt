@@ -12,9 +12,10 @@ use borrow.Author.Tests.{ltb-false, eqb-true}
 use Rattle.wire.proofs.Tests.{test, clash}
 use Rattle.wire.proofs.Order.{sameBytes-refl}
 use Rattle.entry.specs.Entry.{Entry, Acceptable, beats, refusalOf}
+use Rattle.entry.proofs.Accept.{accepted}
 use Rattle.image.specs.Image.{image, slotsOf, entriesOf, allAcceptable, ascending, sound}
 use Rattle.image.proofs.Compared.{distinct}
-use Rattle.image.proofs.SlotLaws.{accepted, fits}
+use Rattle.image.proofs.SlotLaws.{fits}
 use Rattle.image.proofs.ImageLaws.{sound-is, sound-image, slots-of-image, entries-of-image}
 use Rattle.store.specs.Held.{_∈_, put, putAll, find}
 use Rattle.store.specs.Answer.{Answer, stored, replaced, kept, isRefused}

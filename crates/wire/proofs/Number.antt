@@ -1,15 +1,14 @@
 -- Laws of big-endian numbers.
-use mathlib.Core.Path.{_≡_, refl, sym, ap, ap₂, _∙_}
+use mathlib.Core.Path.{_≡_, refl, sym, ap, _∙_}
 use Prim.Native.Nat.{ℕ, zero, suc, _+_, _-_, _*_, _/_, _%_, _^_, _≤_, _<_}
 use mathlib.Core.List.{List, [], _∷_, _++_, append-nil}
 use native.Mathlib.Omega.{arith}
 use native.Mathlib.Nat.{not-suc-le-zero, le-of-suc-le-suc, pow-suc, div-lt-iff-lt-mul, div-add-mod'}
 use native.Mathlib.Numerals.{add-one}
-use lib.ListN.{length, take, drop, getD, set, length-append, length-take, drop-of-length-le, replicate, replicate-append-replicate}
-use lib.Seq.{drop-cons, drop-length, append-snoc, take-all, take-suc}
+use lib.ListN.{length, take, drop, getD, set, length-append}
+use lib.Seq.{drop-length, append-snoc, take-all, take-suc}
 use lib.Dec.{lit<}
 use Rattle.wire.specs.Number.{be, numFrom, num, Bytes}
-use Rattle.wire.specs.Fill.{zeros}
 
 pub length-be : (w n : ℕ) → length (be w n) ≡ w
 unfolding be

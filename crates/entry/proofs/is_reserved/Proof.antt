@@ -1,5 +1,5 @@
 use borrow.Author.Needs.{needs}
-use mathlib.Core.Path.{_≡_, sym, ap, _∙_}
+use mathlib.Core.Path.{sym, _∙_}
 use Rattle.entry.specs.Key.{reserved}
 use Rattle.entry.proofs.is_reserved.Statement.{statement}
 use Rattle.entry.proofs.is_reserved.Tie as tie

@@ -1,6 +1,6 @@
 use borrow.Author.Needs.{needs}
 use native.Mathlib.Omega.{arith}
-use mathlib.Core.Path.{_≡_, refl, sym, ap, _∙_}
+use mathlib.Core.Path.{refl, sym, _∙_}
 use borrow.Author.Tests.{not-true, not-false}
 use Rattle.node.proofs.Handling.{no-room, handles, refuses, unsound, bad-now, bad-clock, reply-type, served}
 use Rattle.node.proofs.handle.Statement.{statement}

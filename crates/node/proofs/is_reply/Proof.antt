@@ -1,5 +1,5 @@
 use borrow.Author.Needs.{needs}
-use mathlib.Core.Path.{refl, sym, ap, _∙_}
+use mathlib.Core.Path.{sym}
 use Rattle.node.proofs.Replying.{type-short, type-byte}
 use Rattle.node.proofs.is_reply.Statement.{statement}
 use Rattle.node.proofs.is_reply.Tie as tie

@@ -1,5 +1,5 @@
 use borrow.Author.Needs.{needs}
-use borrow.Author.Tests.{lt-ltb, le-ltb, le-leb, lt-leb}
+use borrow.Author.Tests.{le-leb, lt-leb}
 use Rattle.clock.specs.Clock.{raise}
 use Rattle.clock.proofs.Clock.raised.Statement.{statement}
 use Rattle.clock.proofs.Clock.raised.Tie as tie

@@ -1,5 +1,5 @@
 use borrow.Author.Needs.{needs}
-use mathlib.Core.Path.{sym, ap, _∙_}
+use mathlib.Core.Path.{sym, _∙_}
 use Rattle.clock.proofs.Steps.{far-ahead, ahead, not-ahead}
 use Rattle.clock.proofs.Clock.receive_in_range.Statement.{statement}
 use Rattle.clock.proofs.Clock.receive_in_range.Tie as tie

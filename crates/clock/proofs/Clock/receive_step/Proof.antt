@@ -1,5 +1,5 @@
 use borrow.Author.Needs.{needs}
-use mathlib.Core.Path.{sym, ap, _∙_}
+use mathlib.Core.Path.{sym, _∙_}
 use Rattle.clock.proofs.Steps.{receive-bad-now, receive-bad-clock, receive-bad-phys, receive-in-range}
 use Rattle.clock.proofs.Clock.receive_step.Statement.{statement}
 use Rattle.clock.proofs.Clock.receive_step.Tie as tie

@@ -1,5 +1,5 @@
 use borrow.Author.Needs.{needs}
-use mathlib.Core.Path.{sym, ap, _∙_}
+use mathlib.Core.Path.{sym, _∙_}
 use Rattle.clock.proofs.Steps.{send-bad-now, send-bad-clock, send-later, send-raised}
 use Rattle.clock.proofs.Clock.send_step.Statement.{statement}
 use Rattle.clock.proofs.Clock.send_step.Tie as tie

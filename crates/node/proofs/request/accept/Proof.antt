@@ -1,5 +1,5 @@
 use borrow.Author.Needs.{needs}
-use mathlib.Core.Path.{refl, sym, ap, _∙_}
+use mathlib.Core.Path.{refl}
 use Rattle.frame.specs.Message.{ok}
 use Rattle.node.proofs.Replying.{replies, ok-taken}
 use Rattle.node.proofs.request.accept.Statement.{statement}

@@ -1,6 +1,5 @@
 use borrow.Author.Needs.{needs}
-use native.Mathlib.Omega.{arith}
-use mathlib.Core.Path.{_≡_, refl, sym, ap, _∙_}
+use mathlib.Core.Path.{refl}
 use Rattle.node.specs.Handler.{gets}
 use Rattle.node.proofs.Settling.{settled, settled-as, settled-refused}
 use Rattle.node.proofs.Serving.{looked-as, value-is, value-fits}

@@ -1,7 +1,8 @@
 use borrow.Author.Needs.{needs}
-use mathlib.Core.Path.{refl, sym, ap, _∙_}
+use mathlib.Core.Path.{refl}
 use Rattle.frame.specs.Message.{value}
-use Rattle.node.proofs.Replying.{replies, value-taken}
+use Rattle.frame.proofs.Bodies.{value-taken}
+use Rattle.node.proofs.Replying.{replies}
 use Rattle.node.proofs.request.give_value.Statement.{statement}
 use Rattle.node.proofs.request.give_value.Tie as tie
 

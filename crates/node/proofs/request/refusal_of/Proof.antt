@@ -1,5 +1,5 @@
 use borrow.Author.Needs.{needs}
-use mathlib.Core.Path.{refl, sym, ap, _∙_}
+use mathlib.Core.Path.{sym, ap}
 use Rattle.node.specs.Request.{refusalIn}
 use Rattle.node.proofs.Variants.{no-refusal-in}
 use Rattle.node.proofs.request.refusal_of.Statement.{statement}

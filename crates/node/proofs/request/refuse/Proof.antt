@@ -1,5 +1,5 @@
 use borrow.Author.Needs.{needs}
-use mathlib.Core.Path.{refl, sym, ap, _∙_}
+use mathlib.Core.Path.{refl}
 use Rattle.entry.specs.Refusal.{number}
 use Rattle.frame.specs.Message.{err}
 use Rattle.node.proofs.Replying.{replies, refusal-taken}

@@ -1,7 +1,7 @@
 use borrow.Author.Needs.{needs}
 use native.Mathlib.Omega.{arith}
-use mathlib.Core.Path.{_≡_, refl, sym, ap, _∙_}
-use mathlib.Core.List.{List, [], _∷_}
+use mathlib.Core.Path.{refl}
+use mathlib.Core.List.{[], _∷_}
 use Rattle.node.proofs.Variants.{apart, past-kind}
 use Rattle.node.proofs.Settling.{settled-as}
 use Rattle.node.proofs.Serving.{part, put, put-within}

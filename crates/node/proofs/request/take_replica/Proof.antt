@@ -1,10 +1,10 @@
 use borrow.Author.Needs.{needs}
-use mathlib.Core.Path.{_≡_, refl, sym, ap, _∙_}
+use mathlib.Core.Path.{refl, sym, ap, _∙_}
 use Rattle.entry.specs.Entry.{entryOf}
 use Rattle.clock.specs.Clock.{receiveStep}
 use Rattle.clock.specs.Answer.{receiveMeaning}
 use Rattle.clock.proofs.Steps.{receive-numbered}
-use Rattle.node.proofs.Replying.{number-range}
+use Rattle.entry.proofs.Numbers.{number-range}
 use Rattle.node.proofs.Settling.{settled-as, settled-refused}
 use Rattle.node.proofs.Serving.{received, not-received}
 use Rattle.node.proofs.request.take_replica.Statement.{statement}
@@ -16,8 +16,8 @@ receive-requires c κs = search needs
 enum-told : tie.Need-enum-told
 enum-told c = search needs
 
-offer-replica-requires : tie.Need-offer-replica-requires
-offer-replica-requires c κs = search needs
+offer-entry-requires : tie.Need-offer-entry-requires
+offer-entry-requires c κs = search needs
 
 enum-known-answer : tie.Need-enum-known-answer
 enum-known-answer c = search needs
@@ -32,7 +32,7 @@ same-length-2 : tie.Need-same-length-2
 same-length-2 c = search needs
 
 returns : tie.Need-returns
-returns c = let a = c .before .before .before .before .before .before .before .before .before .before .before .before .before .before .before .args in settled-as _ _ _ _ _ _ _ _ (received (a .store .now) (a .clock) (c .before .before .before .before .before .before .before .before .before .before .receive .result .clock) (entryOf (a .key .now) (a .value .now) (a .flag) (a .stamp)) (receiveStep (a .clock) (a .stamp .phys) (a .stamp .logical) (a .time)) (receive-numbered (a .clock) (a .stamp .phys) (a .stamp .logical) (a .time)) (c .before .before .before .before .before .before .before .before .before .before .receive .ensures .clock-is) (sym (ap receiveMeaning (c .before .before .before .before .before .before .before .enum-told .given .1)) ∙ c .before .before .before .before .before .before .before .before .before .before .receive .ensures .answer-is)) (c .before .before .before .before .offer-replica .ensures)
+returns c = let a = c .before .before .before .before .before .before .before .before .before .before .before .before .before .before .before .args in settled-as _ _ _ _ _ _ _ _ (received (a .store .now) (a .clock) (c .before .before .before .before .before .before .before .before .before .before .receive .result .clock) (entryOf (a .key .now) (a .value .now) (a .flag) (a .stamp)) (receiveStep (a .clock) (a .stamp .phys) (a .stamp .logical) (a .time)) (receive-numbered (a .clock) (a .stamp .phys) (a .stamp .logical) (a .time)) (c .before .before .before .before .before .before .before .before .before .before .receive .ensures .clock-is) (sym (ap receiveMeaning (c .before .before .before .before .before .before .before .enum-told .given .1)) ∙ c .before .before .before .before .before .before .before .before .before .before .receive .ensures .answer-is)) (c .before .before .before .before .offer-entry .ensures)
 
 same-length-3 : tie.Need-same-length-3
 same-length-3 c = search needs
@@ -46,7 +46,7 @@ take-replica-spec =
     (tie.spec
     receive-requires
     enum-told
-    offer-replica-requires
+    offer-entry-requires
     enum-known-answer
     refuse-requires
     same-length

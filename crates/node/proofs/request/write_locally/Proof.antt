@@ -1,5 +1,5 @@
 use borrow.Author.Needs.{needs}
-use mathlib.Core.Path.{_≡_, refl, sym, ap, _∙_}
+use mathlib.Core.Path.{refl, sym, ap, _∙_}
 use Rattle.entry.specs.Entry.{entryOf}
 use Rattle.clock.specs.Clock.{sendStep}
 use Rattle.clock.specs.Answer.{sendMeaning}
@@ -14,8 +14,8 @@ send-requires c κs = search needs
 enum-known-answer : tie.Need-enum-known-answer
 enum-known-answer c = search needs
 
-offer-local-requires : tie.Need-offer-local-requires
-offer-local-requires c κs = search needs
+offer-entry-requires : tie.Need-offer-entry-requires
+offer-entry-requires c κs = search needs
 
 enum-known-answer-2 : tie.Need-enum-known-answer-2
 enum-known-answer-2 c = search needs
@@ -30,7 +30,7 @@ same-length-2 : tie.Need-same-length-2
 same-length-2 c = search needs
 
 returns : tie.Need-returns
-returns c = let a = c .before .before .before .before .before .before .before .before .before .before .before .before .before .before .before .before .args in settled-as _ _ _ _ _ _ _ _ (sent (a .store .now) (a .clock) (c .before .before .before .before .before .before .before .before .before .before .before .send .result .clock) (entryOf (a .key .now) (a .value .now) (a .flag)) (sendStep (a .clock) (a .time)) _ (c .before .before .before .before .before .before .before .before .before .before .before .send .ensures .clock-is) (sym (ap sendMeaning (c .before .before .before .before .before .before .before .before .answer .given .1)) ∙ c .before .before .before .before .before .before .before .before .before .before .before .send .ensures .answer-is)) (c .before .before .before .before .offer-local .ensures)
+returns c = let a = c .before .before .before .before .before .before .before .before .before .before .before .before .before .before .before .before .args in settled-as _ _ _ _ _ _ _ _ (sent (a .store .now) (a .clock) (c .before .before .before .before .before .before .before .before .before .before .before .send .result .clock) (entryOf (a .key .now) (a .value .now) (a .flag)) (sendStep (a .clock) (a .time)) _ (c .before .before .before .before .before .before .before .before .before .before .before .send .ensures .clock-is) (sym (ap sendMeaning (c .before .before .before .before .before .before .before .before .answer .given .1)) ∙ c .before .before .before .before .before .before .before .before .before .before .before .send .ensures .answer-is)) (c .before .before .before .before .offer-entry .ensures)
 
 same-length-3 : tie.Need-same-length-3
 same-length-3 c = search needs
@@ -44,7 +44,7 @@ write-locally-spec =
     (tie.spec
     send-requires
     enum-known-answer
-    offer-local-requires
+    offer-entry-requires
     enum-known-answer-2
     refuse-requires
     same-length

@@ -6,7 +6,8 @@ use Rattle.entry.specs.Refusal.{number}
 use Rattle.peers.specs.Row.{heardRow}
 use Rattle.peers.specs.Table.{onRow}
 use Rattle.peers.specs.Event.{answerNumber, withRows, reportedAnswer, heardAnswer, afterHeard}
-use Rattle.peers.proofs.Answers.{refused-gives, refusal-number, heard-is, peer-index, peer-in-array, row-gives}
+use Rattle.entry.proofs.Numbers.{number-not-0}
+use Rattle.peers.proofs.Answers.{refused-gives, heard-is, peer-index, peer-in-array, row-gives}
 use Rattle.peers.proofs.PeerTable.heard.Statement.{statement}
 use Rattle.peers.proofs.PeerTable.heard.Tie as tie
 
@@ -51,7 +52,7 @@ unfolding afterHeard
 returns c =
     let a = c .before .before .before .before .before .args in
     let w = c .before .before .answer .given in
-    refused-gives (c .refused .result) (a .t1) (withRows (onRow (a .id) (heardRow (a .incarnation) (a .now))) (a .t1)) (number (w .0 .0)) (heardAnswer (a .id) (a .incarnation) (a .now) (a .t1)) (c .refused .ensures) (refusal-number (w .0 .0))
+    refused-gives (c .refused .result) (a .t1) (withRows (onRow (a .id) (heardRow (a .incarnation) (a .now))) (a .t1)) (number (w .0 .0)) (heardAnswer (a .id) (a .incarnation) (a .now) (a .t1)) (c .refused .ensures) (number-not-0 (w .0 .0))
     (sym (ap answerNumber (w .1)) ∙ c .before .before .before .before .judge .ensures ∙ heard-is (a .id) (a .incarnation) (a .now) (a .t1))
 
 returns-2 : tie.Need-returns-2

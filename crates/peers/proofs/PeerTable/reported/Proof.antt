@@ -6,7 +6,8 @@ use Rattle.entry.specs.Refusal.{number}
 use Rattle.peers.specs.Row.{reportedRow}
 use Rattle.peers.specs.Table.{onRow}
 use Rattle.peers.specs.Event.{answerNumber, withRows, reportedAnswer, afterReported}
-use Rattle.peers.proofs.Answers.{refused-gives, refusal-number, peer-index, peer-in-array, row-gives}
+use Rattle.entry.proofs.Numbers.{number-not-0}
+use Rattle.peers.proofs.Answers.{refused-gives, peer-index, peer-in-array, row-gives}
 use Rattle.peers.proofs.PeerTable.reported.Statement.{statement}
 use Rattle.peers.proofs.PeerTable.reported.Tie as tie
 
@@ -51,7 +52,7 @@ unfolding afterReported
 returns c =
     let a = c .before .before .before .before .before .args in
     let w = c .before .before .answer .given in
-    refused-gives (c .refused .result) (a .t1) (withRows (onRow (a .id) (reportedRow (a .state) (a .incarnation) (a .now))) (a .t1)) (number (w .0 .0)) (reportedAnswer (a .id) (a .state) (a .incarnation) (a .now) (a .t1)) (c .refused .ensures) (refusal-number (w .0 .0))
+    refused-gives (c .refused .result) (a .t1) (withRows (onRow (a .id) (reportedRow (a .state) (a .incarnation) (a .now))) (a .t1)) (number (w .0 .0)) (reportedAnswer (a .id) (a .state) (a .incarnation) (a .now) (a .t1)) (c .refused .ensures) (number-not-0 (w .0 .0))
     (sym (ap answerNumber (w .1)) ∙ c .before .before .before .before .judge .ensures)
 
 returns-2 : tie.Need-returns-2
