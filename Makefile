@@ -2,7 +2,7 @@
 CARGO = cargo
 TOOLS = reference/target/release
 SAMPLE = target/sample
-.PHONY: run test reference tools expected tails library differential fuzz bench fmt
+.PHONY: run test proved reference tools expected tails library differential fuzz bench fmt
 
 run: target/bin/replay
 	@$(TOOLS)/journal $(SAMPLE)/journal $(SAMPLE)/expected
@@ -10,7 +10,9 @@ run: target/bin/replay
 	@cmp $(SAMPLE)/expected $(SAMPLE)/replies
 	@$(TOOLS)/view $(SAMPLE)/journal $(SAMPLE)/replies
 
-test: reference expected tails differential
+test:
+	@$(MAKE) --no-print-directory -j2 reference proved
+	@$(MAKE) --no-print-directory expected tails differential
 	@rt fmt --check
 	@rt ci
 
@@ -21,6 +23,11 @@ reference:
 tools:
 	@mkdir -p target
 	@cd reference && $(CARGO) build --release --offline --quiet
+
+# What the tests before the gate need proved: the replay program and the library.
+proved:
+	@mkdir -p $(SAMPLE)
+	@rt check replay capi >$(SAMPLE)/proved.log 2>&1 || { cat $(SAMPLE)/proved.log; exit 1; }
 
 # The proved replay program.
 .PHONY: target/bin/replay

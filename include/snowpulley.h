@@ -178,8 +178,7 @@ uint32_t sp_store_is_sound(const uint8_t *store, size_t store_len);
 
 /* What the store says of a key; place[0] and place[1] become where the value stands in the
  * store and its length (0 and 0 where there is none; an empty value has a place). Later words
- * stay. SP_BAD_STORE,
- * SP_BAD_KEY, then SP_NO_ROOM for fewer than two words. */
+ * stay. SP_BAD_STORE, SP_BAD_KEY, then SP_NO_ROOM for fewer than two words. */
 sp_result sp_store_lookup(const uint8_t *store, size_t store_len, const uint8_t *key,
                           size_t key_len, uint64_t *place, size_t place_len);
 

@@ -1,20 +1,22 @@
--- When words are a clock, and the clock's layout.
+-- When words are a clock, the clock's layout, and what a refusal leaves.
 use mathlib.Core.Path.{_≡_, refl, sym, ap, _∙_}
-use mathlib.Core.Bool.{Bool, true, false, _&&_}
+use mathlib.Core.Logic.{inl, inr}
+use mathlib.Core.Bool.{true, false, _&&_}
 use mathlib.Core.List.{List, [], _∷_, _++_}
 use Prim.Native.Nat.{ℕ, _^_, _≤_, _<_}
 use native.Mathlib.Omega.{arith}
 use lib.ListN.{length, drop, drop-of-length-le}
 use lib.Dec.{ltb, eqb}
 use borrow.Author.Tests.{lt-ltb, le-ltb, eq-eqb, ne-eqb, ltb-true, eqb-true}
-use Rattle.wire.proofs.Tests.{and-true}
+use Rattle.wire.proofs.Tests.{test, and-true}
 use Rattle.clock.specs.declared.Clock.{Clock}
-use Rattle.clock.specs.Clock.{Stepped, next, refused}
+use Rattle.clock.specs.Clock.{Stepped, next, refused, freshClock, sendStep, receiveStep}
 use Rattle.clock.specs.Answer.{given, clockAfter, refusalOf}
 use Rattle.capi.specs.Result.{packed}
 use Rattle.capi.specs.Words.{word, clockWords, isClock, clockOf}
 use Rattle.capi.specs.Clock.{stepRefusal, stepWords, sendRefusal}
-use Rattle.capi.specs.Meaning.{ClockLayout}
+use Rattle.capi.specs.Meaning.{ClockLayout, ClockWordsAre, StepKeeps, RefusedClock}
+use Rattle.capi.proofs.Fronts.{front-kept}
 
 module _ (w : List ℕ) where
   pub no-clock-length : (length w ≡ 4 → ⊥) → false ≡ isClock w
@@ -62,6 +64,9 @@ pub clock-layout : ClockLayout
 unfolding clockOf
 clock-layout = record { back = λ c. refl; same = λ w h. four-words w (clock-parts w h .size) }
 
+pub clock-words-are : ClockWordsAre
+clock-words-are c r = sym (clock-skew (clockWords c) refl (r .logical) (r .node)) ∙ lt-ltb (c .skew) (2 ^ 32) (r .skew)
+
 -- ---- a step on words
 pub given-refusal : (s : Stepped) → sendRefusal (given s) ≡ refusalOf s
 given-refusal (next d) = refl
@@ -80,3 +85,23 @@ module _ (step : Clock → Stepped) (w : List ℕ) (r : ℕ) where
         rw t (re ∙ ap (λ (m : ℕ). packed m 0) (ne ∙ ap (λ (x : Clock). refusalOf (step x)) ce)),
         rw t (oe ∙ ap (λ (l : List ℕ). clockWords d ++ l) end ∙ ap clockWords (de ∙ ap (λ (x : Clock). clockAfter x (step x)) ce)),
       )
+
+-- ---- a refused step
+same-clock : (c : Clock) (s : Stepped) → (refusalOf s ≡ 0 → ⊥) → clockAfter c s ≡ c
+same-clock c (next d) h = absurd (h refl)
+same-clock c (refused n) h = refl
+
+step-kept : (step : Clock → Stepped) → StepKeeps step
+unfolding stepRefusal stepWords
+step-kept step w h = elim (test (isClock w)) [
+  | inl t ↦ rw t (ap clockWords (same-clock (clockOf w) (step (clockOf w)) (rw t at h)) ∙ clock-layout .same w t)
+  | inr f ↦ rw f
+]
+
+pub refused-clock : RefusedClock
+refused-clock =
+    record {
+      fresh = λ node. front-kept 0 (clockWords (freshClock node));
+      send = λ now. step-kept (λ c. sendStep c now);
+      receive = λ p l now. step-kept (λ c. receiveStep c p l now);
+    }

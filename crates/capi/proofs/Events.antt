@@ -1,12 +1,12 @@
 -- Events on the words of a table.
-use mathlib.Core.Path.{_≡_, refl, sym, ap, _∙_}
+use mathlib.Core.Path.{_≡_, sym, ap, _∙_}
 use mathlib.Core.Logic.{inl, inr}
 use mathlib.Core.Bool.{true, false}
 use mathlib.Core.List.{List, [], _++_, append-nil}
 use Prim.Native.Nat.{ℕ, _^_, _≤_, _<_}
 use native.Mathlib.Omega.{arith}
 use lib.ListN.{length, drop, drop-of-length-le}
-use lib.Dec.{leb, eqb}
+use lib.Dec.{leb}
 use borrow.Author.Tests.{le-leb, lt-leb}
 use Rattle.wire.proofs.Tests.{test}
 use Rattle.entry.specs.declared.Refusal.{Refusal}
@@ -16,12 +16,15 @@ use Rattle.peers.specs.declared.PeerAnswer.{PeerAnswer}
 use Rattle.peers.specs.declared.PeerAnswer.the-variants.{Done, Refused}
 use Rattle.peers.specs.declared.Changed.{Changed}
 use Rattle.peers.specs.Table.{soundTable}
-use Rattle.peers.specs.Event.{answerNumber, Gives, unlessRefused, freshAnswer, freshTable, afterFresh}
+use Rattle.peers.specs.Event.{answerNumber, Gives, unlessRefused, freshAnswer, freshTable, afterFresh, addAnswer, afterAdd, heardAnswer, afterHeard, reportedAnswer, afterReported, tickAnswer, afterTick}
+use Rattle.peers.specs.Meaning.{RefusalKeeps}
+use Rattle.peers.proofs.Refused.{refusals-keep-the-table}
 use Rattle.capi.specs.Result.{packed, flag}
 use Rattle.capi.specs.Words.{isTable, tableOf, tableWords, rowsWords}
 use Rattle.capi.specs.Peers.{formRefusal, eventRefusal, eventWords, soundWords}
-use Rattle.capi.proofs.Fronts.{Puts, front-refused, front-put}
-use Rattle.capi.proofs.Rows.{table-parts}
+use Rattle.capi.specs.Meaning.{EventKeeps, RefusedTable}
+use Rattle.capi.proofs.Fronts.{Puts, front-refused, front-put, front-kept}
+use Rattle.capi.proofs.Rows.{table-parts, table-layout}
 
 module _ (time : ℕ) (w : List ℕ) (r : ℕ) where
   pub form-time : 2 ^ 48 ≤ time → r ≡ packed 9 0 → r ≡ packed (formRefusal time w) 0
@@ -95,6 +98,28 @@ fresh-put i a p n now lent r d after g e h re ae =
     let l = fresh-long i a p n now z in
     front-put (freshAnswer now) (tableWords (afterFresh i a p n now)) lent r after z (omega arith) (re ∙ ap (λ (x : PeerAnswer). packed (answerNumber x) 0) e)
     (rw l (ae ∙ ap (λ (t : PeerTable). tableWords t ++ drop 61 lent) (g .table)))
+
+-- ---- a refused event
+event-kept : (time : ℕ) (answer : PeerTable → ℕ) (after : PeerTable → PeerTable) → RefusalKeeps answer after → EventKeeps time answer after
+unfolding eventRefusal eventWords
+event-kept time answer after keeps w h = elim (test (leb (2 ^ 48) time)) [
+  | inl p ↦ rw p
+  | inr p ↦ elim (test (isTable w)) [
+    | inl t ↦ rw (p, t) (ap tableWords (keeps (tableOf w) (rw (p, t) at h)) ∙ table-layout .same w t)
+    | inr f ↦ rw (p, f)
+  ]
+]
+
+pub refused-table : RefusedTable
+refused-table =
+    let kept = refusals-keep-the-table in
+    record {
+      fresh = λ i a p n now. front-kept (freshAnswer now) (tableWords (afterFresh i a p n now));
+      add = λ i a p n now. event-kept now (addAnswer i now) (afterAdd i a p n now) (kept .add i a p n now);
+      heard = λ i n now. event-kept now (heardAnswer i n now) (afterHeard i n now) (kept .heard i n now);
+      reported = λ i s n now. event-kept now (reportedAnswer i s n now) (afterReported i s n now) (kept .reported i s n now);
+      tick = λ now. event-kept now (tickAnswer now) (afterTick now) (kept .tick now);
+    }
 
 -- ---- soundness
 module _ (w : List ℕ) where

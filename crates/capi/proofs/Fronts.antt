@@ -1,5 +1,5 @@
 -- A front that is put into a lent slice, or refused.
-use mathlib.Core.Path.{_≡_, refl, sym, ap, _∙_}
+use mathlib.Core.Path.{_≡_, ap, _∙_}
 use mathlib.Core.Bool.{false}
 use mathlib.Core.List.{List, [], _∷_, _++_}
 use Prim.Native.Nat.{ℕ, _≤_, _<_}
@@ -12,6 +12,7 @@ use Rattle.entry.specs.Refusal.{number}
 use Rattle.frame.specs.Writing.{writeRefusal, afterWrite}
 use Rattle.entry.proofs.Numbers.{number-not-0}
 use Rattle.capi.specs.Result.{packed}
+use Rattle.capi.specs.Meaning.{PutKeeps}
 
 -- a result r, and what is left of the slice, are those of putting the front f, after the refusal n
 pub record Puts (n : ℕ) (f lent : List ℕ) (r : ℕ) (after : List ℕ) : Type 0 where
@@ -33,6 +34,10 @@ module _ (n : ℕ) (f lent : List ℕ) (r : ℕ) where
   pub front-put : (after : List ℕ) → n ≡ 0 → length f ≤ length lent → r ≡ 0 → after ≡ f ++ drop (length f) lent → Puts n f lent r after
   unfolding writeRefusal afterWrite
   front-put after e l h is = record { told = rw (e, le-ltb (length lent) (length f) l) h; left = rw (e, le-ltb (length lent) (length f) l) is }
+
+pub front-kept : (n : ℕ) (f : List ℕ) → PutKeeps n f
+unfolding afterWrite
+front-kept n f w h = rw (ne-eqb (writeRefusal n f w) 0 h)
 
 -- the first word alone
 pub set-first : (lent : List ℕ) (x y : ℕ) → 1 ≤ length lent → x ≡ y → set lent 0 x ≡ (y ∷ []) ++ drop 1 lent

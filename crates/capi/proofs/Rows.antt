@@ -1,8 +1,8 @@
 -- The words of a peer table, row by row.
 use mathlib.Core.Path.{_≡_, refl, sym, ap, _∙_}
 use mathlib.Core.Logic.{inl, inr}
-use mathlib.Core.Bool.{Bool, true, false, _&&_}
-use mathlib.Core.List.{List, [], _∷_, _++_, append-assoc, append-nil}
+use mathlib.Core.Bool.{true, false, _&&_}
+use mathlib.Core.List.{List, [], _∷_, _++_, append-nil, List·Memᴰ·head as head, Memᴰ·append-left as left-in, Memᴰ·append-right as right-in}
 use Prim.Native.Nat.{ℕ, zero, suc, _+_, _-_, _*_, _^_, _≤_, _<_}
 use native.Mathlib.Omega.{arith}
 use native.Mathlib.Numerals.{add-one}
@@ -18,7 +18,8 @@ use Rattle.peers.specs.declared.Row.{Row}
 use Rattle.peers.specs.declared.PeerTable.{PeerTable}
 use Rattle.peers.specs.Event.{noRow}
 use Rattle.capi.specs.Words.{word, rowWords, rowsWords, tableWords, rowAt, rowFits, rowOf, rowsFit, rowsOf, isTable, tableOf}
-use Rattle.capi.specs.Meaning.{TableLayout}
+use Rattle.store.specs.Held.{_∈_}
+use Rattle.capi.specs.Meaning.{TableLayout, RowInRange, TableWordsAre}
 
 -- ---- whether a row fits
 module _ (k : ℕ) (w : List ℕ) where
@@ -211,3 +212,26 @@ table-layout =
       back = λ t n. ap (λ (l : List Row). record { rows = l; count = t .count }) (ten-rows (t .count) (t .rows) n);
       same = λ w h. table-same w (table-parts w h .size);
     }
+
+-- ---- the words of a table are a table
+row-in-range : (k : ℕ) (w : List ℕ) → RowInRange (rowOf k w) → rowFits k w ≡ true
+unfolding rowOf
+row-in-range k w r = sym (fits-incarnation k w (r .id) (r .address) (r .port) (r .state)) ∙ lt-ltb (word w (rowAt k + 4)) (2 ^ 32) (r .incarnation)
+
+rows-in-range : (n : ℕ) (w : List ℕ) → ((r : Row) → r ∈ rowsOf n w → RowInRange r) → rowsFit n w ≡ true
+unfolding rowsFit rowsOf
+rows-in-range zero w f = refl
+rows-in-range (suc n) w f = rw (row-in-range n w (f (rowOf n w) (right-in (rowsOf n w) (head refl)))) (rows-in-range n w (λ r m. f r (left-in (rowOf n w ∷ []) m)))
+
+length-rows : (rows : List Row) → length (rowsWords rows) ≡ 6 * length rows
+unfolding rowsWords
+length-rows [] = refl
+length-rows (r ∷ rows) = omega (arith, length-rows rows)
+
+pub table-words-are : TableWordsAre
+unfolding tableWords
+table-words-are t r =
+    let w = tableWords t in
+    let n : length w ≡ 61 = omega (arith, length-rows (t .rows), r .ten) in
+    let each : (x : Row) → x ∈ rowsOf 10 w → RowInRange x = rw (ten-rows (t .count) (t .rows) (r .ten)) (r .each) in
+    sym (table-rows w n (r .count)) ∙ rows-in-range 10 w each

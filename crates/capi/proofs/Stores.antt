@@ -1,12 +1,11 @@
 -- The answers of the store's functions.
-use mathlib.Core.Path.{_≡_, refl, sym, ap, _∙_}
+use mathlib.Core.Path.{_≡_, refl, sym, _∙_}
 use mathlib.Core.Bool.{true, false}
-use mathlib.Core.List.{List, [], _∷_}
-use Prim.Native.Nat.{ℕ, suc, _+_, _≤_, _<_}
+use mathlib.Core.List.{List}
+use Prim.Native.Nat.{ℕ, _+_, _≤_, _<_}
 use native.Mathlib.Omega.{arith}
 use native.Mathlib.Numerals.{add-one}
 use lib.ListN.{length, drop, drop-of-length-le}
-use lib.Dec.{eqb}
 use Rattle.wire.specs.Order.{sameBytes}
 use mathlib.Core.Logic.{inl, inr}
 use Rattle.image.specs.Image.{keyIn, slotEntry, usedOf, entriesOf, sound}

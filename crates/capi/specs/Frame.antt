@@ -2,6 +2,7 @@
 use Prim.Native.Nat.{ℕ, _+_}
 use mathlib.Core.List.{List, [], _∷_}
 use lib.ListN.{length}
+use Rattle.entry.specs.declared.Stamp.{Stamp}
 use Rattle.entry.specs.Refusal.{number}
 use Rattle.frame.specs.declared.answer.Read.{Read}
 use Rattle.frame.specs.declared.answer.Read.the-variants as read
@@ -28,16 +29,25 @@ writeWord m out = wroteWord (writeAnswer (messageRefusal m) (frameOf m) out)
 abbrev pub writeBytes : Message → List ℕ → List ℕ
 writeBytes m out = afterWrite (messageRefusal m) (frameOf m) out
 
--- type; where the key stands in the frame and its length; where the value stands and its length; flag; phys; logical; node; ERR number.
+-- The ten words: type; where the key stands in the frame and its length; where the value stands and its length; flag; phys; logical; node; ERR number.
 -- The key stands after LEN, TYPE, FLAGS and klen; a value after its vlen. A word without a use is 0
+-- those of a message that has no more than a key and a value
+abbrev pub partWords : ℕ → ℕ → ℕ → ℕ → ℕ → List ℕ
+partWords t ka kl va vl = t ∷ ka ∷ kl ∷ va ∷ vl ∷ 0 ∷ 0 ∷ 0 ∷ 0 ∷ 0 ∷ []
+
+-- those of a REPL
+abbrev pub replWords : ℕ → ℕ → ℕ → ℕ → ℕ → Stamp → List ℕ
+replWords ka kl va vl f stamp = 4 ∷ ka ∷ kl ∷ va ∷ vl ∷ f ∷ stamp .phys ∷ stamp .logical ∷ stamp .node ∷ 0 ∷ []
+
+-- those of a message
 abbrev pub fieldWords : Message → List ℕ
-fieldWords (put k v) = 1 ∷ 5 ∷ length k ∷ (length k + 7) ∷ length v ∷ 0 ∷ 0 ∷ 0 ∷ 0 ∷ 0 ∷ []
-fieldWords (get k) = 2 ∷ 5 ∷ length k ∷ 0 ∷ 0 ∷ 0 ∷ 0 ∷ 0 ∷ 0 ∷ 0 ∷ []
-fieldWords (del k) = 3 ∷ 5 ∷ length k ∷ 0 ∷ 0 ∷ 0 ∷ 0 ∷ 0 ∷ 0 ∷ 0 ∷ []
-fieldWords (repl e) = 4 ∷ 5 ∷ length (e .key) ∷ (length (e .key) + 17) ∷ length (e .value) ∷ e .flag ∷ e .stamp .phys ∷ e .stamp .logical ∷ e .stamp .node ∷ 0 ∷ []
-fieldWords ok = 16 ∷ 0 ∷ 0 ∷ 0 ∷ 0 ∷ 0 ∷ 0 ∷ 0 ∷ 0 ∷ 0 ∷ []
-fieldWords (value v) = 17 ∷ 0 ∷ 0 ∷ 6 ∷ length v ∷ 0 ∷ 0 ∷ 0 ∷ 0 ∷ 0 ∷ []
-fieldWords notFound = 18 ∷ 0 ∷ 0 ∷ 0 ∷ 0 ∷ 0 ∷ 0 ∷ 0 ∷ 0 ∷ 0 ∷ []
+fieldWords (put k v) = partWords 1 5 (length k) (length k + 7) (length v)
+fieldWords (get k) = partWords 2 5 (length k) 0 0
+fieldWords (del k) = partWords 3 5 (length k) 0 0
+fieldWords (repl e) = replWords 5 (length (e .key)) (length (e .key) + 17) (length (e .value)) (e .flag) (e .stamp)
+fieldWords ok = partWords 16 0 0 0 0
+fieldWords (value v) = partWords 17 0 0 6 (length v)
+fieldWords notFound = partWords 18 0 0 0 0
 fieldWords (err n) = 20 ∷ 0 ∷ 0 ∷ 0 ∷ 0 ∷ 0 ∷ 0 ∷ 0 ∷ 0 ∷ n ∷ []
 
 -- the refusal of a reading, or 0
@@ -63,26 +73,14 @@ refusalOfRead read.NotFound = 0
 refusalOfRead (read.Err n) = 0
 refusalOfRead (read.Refused r) = number r
 
--- the length of the key, or 0
-abbrev pub keyLength : Read → ℕ
-keyLength (read.Put ka kl va vl) = kl
-keyLength (read.Get ka kl) = kl
-keyLength (read.Del ka kl) = kl
-keyLength (read.Repl ka kl va vl f stamp) = kl
-keyLength read.Ok = 0
-keyLength (read.Value va vl) = 0
-keyLength read.NotFound = 0
-keyLength (read.Err n) = 0
-keyLength (read.Refused r) = 0
-
 -- the ten words
 abbrev pub wordsIn : Read → List ℕ
-wordsIn (read.Put ka kl va vl) = 1 ∷ 5 ∷ kl ∷ (kl + 7) ∷ vl ∷ 0 ∷ 0 ∷ 0 ∷ 0 ∷ 0 ∷ []
-wordsIn (read.Get ka kl) = 2 ∷ 5 ∷ kl ∷ 0 ∷ 0 ∷ 0 ∷ 0 ∷ 0 ∷ 0 ∷ 0 ∷ []
-wordsIn (read.Del ka kl) = 3 ∷ 5 ∷ kl ∷ 0 ∷ 0 ∷ 0 ∷ 0 ∷ 0 ∷ 0 ∷ 0 ∷ []
-wordsIn (read.Repl ka kl va vl f stamp) = 4 ∷ 5 ∷ kl ∷ (kl + 17) ∷ vl ∷ f ∷ stamp .phys ∷ stamp .logical ∷ stamp .node ∷ 0 ∷ []
-wordsIn read.Ok = 16 ∷ 0 ∷ 0 ∷ 0 ∷ 0 ∷ 0 ∷ 0 ∷ 0 ∷ 0 ∷ 0 ∷ []
-wordsIn (read.Value va vl) = 17 ∷ 0 ∷ 0 ∷ 6 ∷ vl ∷ 0 ∷ 0 ∷ 0 ∷ 0 ∷ 0 ∷ []
-wordsIn read.NotFound = 18 ∷ 0 ∷ 0 ∷ 0 ∷ 0 ∷ 0 ∷ 0 ∷ 0 ∷ 0 ∷ 0 ∷ []
+wordsIn (read.Put ka kl va vl) = partWords 1 ka kl va vl
+wordsIn (read.Get ka kl) = partWords 2 ka kl 0 0
+wordsIn (read.Del ka kl) = partWords 3 ka kl 0 0
+wordsIn (read.Repl ka kl va vl f stamp) = replWords ka kl va vl f stamp
+wordsIn read.Ok = partWords 16 0 0 0 0
+wordsIn (read.Value va vl) = partWords 17 0 0 va vl
+wordsIn read.NotFound = partWords 18 0 0 0 0
 wordsIn (read.Err n) = 20 ∷ 0 ∷ 0 ∷ 0 ∷ 0 ∷ 0 ∷ 0 ∷ 0 ∷ 0 ∷ n ∷ []
 wordsIn (read.Refused r) = 0 ∷ 0 ∷ 0 ∷ 0 ∷ 0 ∷ 0 ∷ 0 ∷ 0 ∷ 0 ∷ 0 ∷ []

@@ -1,7 +1,7 @@
 -- The ring's functions.
 use Prim.Native.Nat.{ℕ}
 use mathlib.Core.Bool.{Bool, cond, not, _||_}
-use mathlib.Core.List.{List, [], _∷_}
+use mathlib.Core.List.{List}
 use lib.Dec.{leb, eqb}
 use Rattle.peers.specs.declared.Admission.{Admission}
 use Rattle.peers.specs.declared.Admission.the-variants.{Home, Standing}

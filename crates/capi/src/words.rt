@@ -1,5 +1,6 @@
 // A clock as four words and a peer table as 61, and words put to the front of a lent slice.
 use clock::Clock;
+use entry::Stamp;
 use frame::Read;
 use peers::PeerTable;
 use peers::Row;
@@ -9,7 +10,7 @@ ghost use mathlib.Core.List.{_++_};
 ghost use Prim.Native.Nat.{_<_, _≤_};
 ghost use lib.ListN.{length, drop};
 ghost use Rattle.capi.specs.Words.{isClock, clockOf, clockWords, rowWords, tableWords, rowFits, rowOf, rowsFit, isTable, tableOf};
-ghost use Rattle.capi.specs.Frame.{keyLength, wordsIn};
+ghost use Rattle.capi.specs.Frame.{partWords, replWords, wordsIn};
 
 const CLOCK_WORDS: usize = 4;
 
@@ -197,50 +198,86 @@ pub fn put_table(table: PeerTable, out: &mut [u64])
     }
 }
 
-// What was read of a frame, as ten words. The key stands after LEN, TYPE, FLAGS and klen, and a value after its vlen.
+// The ten words of a REPL.
+fn repl_words(
+    key_at: usize,
+    key_len: usize,
+    value_at: usize,
+    value_len: usize,
+    flag: u8,
+    stamp: Stamp,
+) -> [u64; 10]
+    ensures { λ r. ⌜ r ≡ replWords «key_at» «key_len» «value_at» «value_len» flag stamp ⌝ }
+{
+    [
+        4,
+        key_at as u64,
+        key_len as u64,
+        value_at as u64,
+        value_len as u64,
+        flag as u64,
+        stamp.phys,
+        stamp.logical as u64,
+        stamp.node as u64,
+        0,
+    ]
+}
+
+// The ten words of a message that has no more than a key and a value.
+fn part_words(
+    kind: u64,
+    key_at: usize,
+    key_len: usize,
+    value_at: usize,
+    value_len: usize,
+) -> [u64; 10]
+    ensures { λ r. ⌜ r ≡ partWords kind «key_at» «key_len» «value_at» «value_len» ⌝ }
+{
+    [
+        kind,
+        key_at as u64,
+        key_len as u64,
+        value_at as u64,
+        value_len as u64,
+        0,
+        0,
+        0,
+        0,
+        0,
+    ]
+}
+
+// What was read of a frame, as ten words.
 pub fn field_words(what: Read) -> [u64; 10]
-    requires { ⌜ keyLength what ≤ 64 ⌝ }
     ensures { λ r. ⌜ r ≡ wordsIn what ⌝ }
 {
     match what {
         Read::Put {
+            key_at,
             key_len,
+            value_at,
             value_len,
-            ..
-        } => {
-            let k = key_len as u64;
-            [1, 5, k, k + 7, value_len as u64, 0, 0, 0, 0, 0]
-        }
-        Read::Get { key_len, .. } => [2, 5, key_len as u64, 0, 0, 0, 0, 0, 0, 0],
-        Read::Del { key_len, .. } => [3, 5, key_len as u64, 0, 0, 0, 0, 0, 0, 0],
+        } => part_words(1, key_at, key_len, value_at, value_len),
+        Read::Get { key_at, key_len } => part_words(2, key_at, key_len, 0, 0),
+        Read::Del { key_at, key_len } => part_words(3, key_at, key_len, 0, 0),
         Read::Repl {
+            key_at,
             key_len,
+            value_at,
             value_len,
             flag,
             stamp,
-            ..
-        } => {
-            let k = key_len as u64;
-            let at = k + 17;
-            let logical = stamp.logical as u64;
-            let node = stamp.node as u64;
-            [
-                4,
-                5,
-                k,
-                at,
-                value_len as u64,
-                flag as u64,
-                stamp.phys,
-                logical,
-                node,
-                0,
-            ]
-        }
+        } => repl_words(key_at, key_len, value_at, value_len, flag, stamp),
         Read::Ok => [16, 0, 0, 0, 0, 0, 0, 0, 0, 0],
-        Read::Value { value_len, .. } => [17, 0, 0, 6, value_len as u64, 0, 0, 0, 0, 0],
+        Read::Value {
+            value_at,
+            value_len,
+        } => part_words(17, 0, 0, value_at, value_len),
         Read::NotFound => [18, 0, 0, 0, 0, 0, 0, 0, 0, 0],
-        Read::Err(number) => [20, 0, 0, 0, 0, 0, 0, 0, 0, number as u64],
+        Read::Err(number) => {
+            let n = number as u64;
+            [20, 0, 0, 0, 0, 0, 0, 0, 0, n]
+        }
         Read::Refused(_) => [0; 10],
     }
 }

@@ -4,9 +4,9 @@ use mathlib.Core.List.{List, [], _∷_}
 use Prim.Native.Nat.{ℕ, zero, suc, _+_, _-_, _*_, _^_, _≤_, _<_}
 use native.Mathlib.Nat.{pow-suc}
 use native.Mathlib.Omega.{arith}
-use lib.ListN.{length, getD, take, drop, length-drop}
+use lib.ListN.{length, getD, take, drop}
 use lib.Dec.{lit<}
-use lib.Seq.{getD-drop, length-take-le, take-all}
+use lib.Seq.{getD-drop, length-take-le}
 use Rattle.checksum.specs.Table.{littleEndian}
 use Rattle.wire.specs.Number.{Bytes}
 
@@ -59,7 +59,3 @@ sixteen-bytes (a ∷ b ∷ c ∷ d ∷ []) k = absurd (omega arith)
 sixteen-bytes (a ∷ b ∷ c ∷ d ∷ e ∷ []) k = absurd (omega arith)
 sixteen-bytes (a ∷ b ∷ c ∷ d ∷ e ∷ f ∷ []) k = absurd (omega arith)
 sixteen-bytes (a ∷ b ∷ c ∷ d ∷ e ∷ f ∷ g ∷ []) k = absurd (omega arith)
-
--- what the code's `&s[i..]` holds
-pub rest : (i : ℕ) (s : List ℕ) → take (length s - i) (drop i s) ≡ drop i s
-rest i s = take-all (length s - i) (drop i s) (omega (arith, length-drop i s))

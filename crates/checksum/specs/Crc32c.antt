@@ -7,7 +7,7 @@ use lib.Bits.{bitXor}
 abbrev pub polynomial : ℕ
 polynomial = 0x82F6_3B78
 
--- one bit: the remainder shifted right, with the polynomial added where a one was shifted out
+-- one bit: the remainder shifted right, with the polynomial xored in where a one was shifted out
 unfoldable pub bitStep : ℕ → ℕ
 bitStep c = bitXor (c % 2 * polynomial) (c / 2)
 

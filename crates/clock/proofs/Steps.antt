@@ -7,8 +7,9 @@ use native.Mathlib.Omega.{arith}
 use lib.Dec.{ltb, leb}
 use borrow.Author.Tests.{lt-ltb, le-ltb, le-leb, lt-leb}
 use Rattle.wire.proofs.Tests.{test}
+use Rattle.entry.specs.Entry.{badTime}
 use Rattle.clock.specs.declared.Clock.{Clock}
-use Rattle.clock.specs.Clock.{Stepped, next, refused, later, raise, withSkew, badTime, sendStep, receiveInRange, receiveStep}
+use Rattle.clock.specs.Clock.{Stepped, next, refused, later, raise, withSkew, sendStep, receiveInRange, receiveStep}
 
 module _ (c : Clock) (now : ℕ) where
   pub send-bad-now : 2 ^ 48 ≤ now → refused 9 ≡ sendStep c now

@@ -1,8 +1,9 @@
 -- The clock's steps.
 use Prim.Native.Nat.{ℕ, _+_, _^_}
-use mathlib.Core.Bool.{Bool, cond, _||_}
+use mathlib.Core.Bool.{cond, _||_}
 use lib.Dec.{ltb, leb}
 use Rattle.entry.specs.declared.Stamp.{Stamp}
+use Rattle.entry.specs.Entry.{badTime}
 use Rattle.clock.specs.declared.Clock.{Clock}
 
 -- a step gives the next clock, or is refused with a number
@@ -28,10 +29,6 @@ raise c p l = cond (leb 65535 l) (refused 8) (next (record { phys = p; logical =
 -- the skew count rises, and stops at 2^32 − 1
 unfoldable pub withSkew : Clock → Clock
 withSkew c = cond (leb 4294967295 (c .skew)) c (record { phys = c .phys; logical = c .logical; node = c .node; skew = c .skew + 1 })
-
--- a time that is 2^48 or more
-abbrev pub badTime : ℕ → Bool
-badTime t = leb (2 ^ 48) t
 
 -- send at now: if now > P the clock becomes (now, 0), else (P, L + 1)
 unfoldable pub sendStep : Clock → ℕ → Stepped

@@ -19,14 +19,18 @@ pub record Entry : Type 0 where
 abbrev pub entryOf : List ℕ → List ℕ → ℕ → Stamp → Entry
 entryOf k v f s = record { key = k; value = v; flag = f; stamp = s }
 
--- the flag is 0 or 1, and a tombstone has no value
+-- a time that is 2^48 or more
+abbrev pub badTime : ℕ → Bool
+badTime t = leb (2 ^ 48) t
+
+-- a flag that is neither 0 nor 1, or a tombstone with a value
 unfoldable pub badFlag : Entry → Bool
 badFlag e = ltb 1 (e .flag) || (eqb (e .flag) 1 && ltb 0 (length (e .value)))
 
 -- the first of an offer's checks 9, 1, 2 and 17 that an entry fails, or 0 if it is acceptable
 unfoldable pub refusalOf : Entry → ℕ
 refusalOf e =
-    cond (leb (2 ^ 48) (e .stamp .phys)) 9
+    cond (badTime (e .stamp .phys)) 9
     (cond (badKey (e .key)) 1
     (cond (ltb 512 (length (e .value))) 2
     (cond (badFlag e) 17

@@ -18,6 +18,7 @@ number UnknownPeer = 11
 number Stale = 12
 number TableFull = 13
 number PeerKnown = 14
+-- SELF in the rules
 number OwnPeer = 15
 number BadRing = 16
 number BadArgument = 17

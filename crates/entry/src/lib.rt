@@ -4,7 +4,7 @@ ghost use mathlib.Core.Path.{_≡_};
 ghost use mathlib.Core.Bool.{not};
 ghost use Rattle.entry.specs.Refusal.{number};
 ghost use Rattle.entry.specs.Key.{reserved, badKey};
-ghost use Rattle.entry.specs.Order.{stampBelow};
+ghost use Rattle.entry.specs.Order.{least, stampBelow};
 ghost use Rattle.entry.specs.Entry.{entryOf, refusalOf};
 ghost use Rattle.entry.specs.Acceptance.{refusalNumber};
 
@@ -80,6 +80,13 @@ impl Stamp {
         logical: 0,
         node: 0,
     };
+
+    // LEAST, with a contract: a constant has none of its own.
+    pub fn least() -> Stamp
+        ensures { λ r. ⌜ r ≡ least ⌝ }
+    {
+        Stamp::LEAST
+    }
 
     pub fn is_below(self, other: Stamp) -> bool
         ensures { λ r. ⌜ r ≡ stampBelow self other ⌝ }

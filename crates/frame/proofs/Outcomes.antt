@@ -23,7 +23,7 @@ use Rattle.entry.specs.Entry.{Entry, entryOf, badFlag, refusalOf}
 use Rattle.frame.specs.declared.answer.Read.{Read}
 use Rattle.frame.specs.declared.answer.Read.the-variants.{Put, Get, Del, Repl, Ok, Value, NotFound, Err, Refused}
 use Rattle.frame.specs.Message.{Message, put, get, del, repl, ok, value, notFound, err, keyFault, valueFault}
-use Rattle.frame.specs.Reading.{Outcome, message, numberAt, envelopeHolds, typeIn, bodyIn, klen, keyIn, valueIn, stampIn, entryIn, keyEnds, valueEnds, outcomeOf, readBody, readFrame, meaning, Within, Reads}
+use Rattle.frame.specs.Reading.{Outcome, message, numberAt, envelopeHolds, typeIn, bodyIn, klen, keyIn, valueIn, stampIn, entryIn, keyEnds, valueEnds, outcomeOf, readBody, readFrame, meaning, Within, Offsets, Reads}
 use Rattle.wire.proofs.Fields.{field-part, bytes-field}
 use Rattle.frame.proofs.Fields.{number-byte, number-lt}
 use Rattle.frame.proofs.Envelopes.{holding}
@@ -41,25 +41,25 @@ entry-faults e p f = rw (lt-leb (2 ^ 48) (e .stamp .phys) p, f)
 
 malformed : (s : List ℕ) (w : Bool) (m : Message) → w ≡ false → Reads s (Refused BadFrame) (outcomeOf w m)
 unfolding outcomeOf
-malformed s w m h = record { means = rw h; within = tt }
+malformed s w m h = record { means = rw h; offsets = tt; within = tt }
 
 faulty : (s : List ℕ) (w : Bool) (m : Message) (r : Refusal) → w ≡ true → number r ≡ faultOf m → Reads s (Refused r) (outcomeOf w m)
 unfolding outcomeOf faultOf
 faulty s w m r h e = elim (test (keyFault m)) [
-  | inl p ↦ record { means = rw (h, e, p); within = tt }
+  | inl p ↦ record { means = rw (h, e, p); offsets = tt; within = tt }
   | inr p ↦ elim (test (valueFault m)) [
-    | inl q ↦ record { means = rw (h, e, p, q); within = tt }
+    | inl q ↦ record { means = rw (h, e, p, q); offsets = tt; within = tt }
     | inr q ↦ clash (eq-eqb (number r) 0 (rw (p, q) at e)) (number-not-0 r)
   ]
 ]
 
-found : (s : List ℕ) (w : Bool) (m : Message) (r : Read) → w ≡ true → 0 ≡ faultOf m → meaning s r ≡ message m → Within s r → Reads s r (outcomeOf w m)
+found : (s : List ℕ) (w : Bool) (m : Message) (r : Read) → w ≡ true → 0 ≡ faultOf m → meaning s r ≡ message m → Offsets r → Within s r → Reads s r (outcomeOf w m)
 unfolding outcomeOf faultOf
-found s w m r h e is at = elim (test (keyFault m)) [
+found s w m r h e is offsets within = elim (test (keyFault m)) [
   | inl p ↦ absurd (eqb-false 0 1 refl (rw p at e))
   | inr p ↦ elim (test (valueFault m)) [
     | inl q ↦ absurd (eqb-false 0 2 refl (rw (p, q) at e))
-    | inr q ↦ record { means = is ∙ rw (h, p, q) refl; within = at }
+    | inr q ↦ record { means = is ∙ rw (h, p, q) refl; offsets = offsets; within = within }
   ]
 ]
 
@@ -136,7 +136,7 @@ module _ (s b : List ℕ) (kl : ℕ) (long : 8 ≤ length s) (is : b ≡ bodyIn 
         let v : length (valuePart (kl + 1) b) ≡ length b - (kl + 1 + 2) = ap length (value-part (kl + 1) b h) ∙ length-value (kl + 1) b h in
         rw (← is) (found s _ (put (keyIn b) (valueIn (klen b + 1) b)) (Put 5 kl (kl + 1 + 2 + 4) (length (valuePart (kl + 1) b))) put-ends (e ∙ put-faults)
         (ap₂ (λ (x y : List ℕ). message (put x y)) (key-place s b long is kl kle (omega arith)) (value-place s b long is (kl + 1) (length (valuePart (kl + 1) b)) h v ∙ ap (λ (k : ℕ). valueIn (k + 1) b) kle))
-        (omega arith, omega arith))
+        (refl, omega arith) (omega arith, omega arith))
 
 -- ---- GET and DEL
 module _ (s b : List ℕ) (kl t : ℕ) (long : 8 ≤ length s) (is : b ≡ bodyIn s) (kle : kl ≡ klen b) where
@@ -191,13 +191,13 @@ module _ (s b : List ℕ) (kl t : ℕ) (long : 8 ≤ length s) (is : b ≡ bodyI
       get-found p =
           let n = length-body s b long is in
           rw (get-body p) (found s (keyEnds b) (get (keyIn b)) (Get 5 kl) key-ends (e ∙ key-faults)
-          (ap (λ (x : List ℕ). message (get x)) (key-place s b long is kl kle (omega arith))) (omega arith))
+          (ap (λ (x : List ℕ). message (get x)) (key-place s b long is kl kle (omega arith))) refl (omega arith))
 
       pub del-found : t ≡ 3 → Reads s (Del 5 kl) (readBody t (bodyIn s))
       del-found p =
           let n = length-body s b long is in
           rw (del-body p) (found s (keyEnds b) (del (keyIn b)) (Del 5 kl) key-ends (e ∙ key-faults ∙ same-faults)
-          (ap (λ (x : List ℕ). message (del x)) (key-place s b long is kl kle (omega arith))) (omega arith))
+          (ap (λ (x : List ℕ). message (del x)) (key-place s b long is kl kle (omega arith))) refl (omega arith))
 
 -- ---- OK and NOTFOUND
 module _ (s : List ℕ) (t : ℕ) (long : 8 ≤ length s) where
@@ -227,11 +227,11 @@ module _ (s : List ℕ) (t : ℕ) (long : 8 ≤ length s) where
 
     pub ok-found : t ≡ 16 → Reads s Ok (readBody t (bodyIn s))
     unfolding faultOf keyFault valueFault
-    ok-found p = rw (ok-body p) (found s _ ok Ok is-empty refl refl tt)
+    ok-found p = rw (ok-body p) (found s _ ok Ok is-empty refl refl tt tt)
 
     pub notFound-found : t ≡ 18 → Reads s NotFound (readBody t (bodyIn s))
     unfolding faultOf keyFault valueFault
-    notFound-found p = rw (notFound-body p) (found s _ notFound NotFound is-empty refl refl tt)
+    notFound-found p = rw (notFound-body p) (found s _ notFound NotFound is-empty refl refl tt tt)
 
 -- ---- VALUE
 module _ (s b : List ℕ) (long : 8 ≤ length s) (is : b ≡ bodyIn s) where
@@ -254,7 +254,7 @@ module _ (s b : List ℕ) (long : 8 ≤ length s) (is : b ≡ bodyIn s) where
         let n = length-body s b long is in
         let k = ends-length 0 b h in
         rw (← is) (found s _ (value (valueIn 0 b)) (Value 6 (length b - 2)) h (rw (value-faults, le-ltb 512 (length b - 2) l))
-        (ap (λ (x : List ℕ). message (value x)) (value-place s b long is 0 (length b - 2) h refl)) (omega arith))
+        (ap (λ (x : List ℕ). message (value x)) (value-place s b long is 0 (length b - 2) h refl)) refl (omega arith))
 
 -- ---- ERR
 module _ (s : List ℕ) (long : 8 ≤ length s) where
@@ -278,7 +278,7 @@ module _ (s : List ℕ) (long : 8 ≤ length s) where
 
     pub err-found : (getD s 4 0 ≡ 0 → ⊥) → Reads s (Err (getD s 4 0)) (readBody 20 (bodyIn s))
     unfolding readBody faultOf keyFault valueFault
-    err-found e = found s _ (err (numberAt 0 1 (bodyIn s))) (Err (getD s 4 0)) (rw (one, number-in, ne-eqb (getD s 4 0) 0 e)) refl (ap (λ (n : ℕ). message (err n)) (sym number-in)) tt
+    err-found e = found s _ (err (numberAt 0 1 (bodyIn s))) (Err (getD s 4 0)) (rw (one, number-in, ne-eqb (getD s 4 0) 0 e)) refl (ap (λ (n : ℕ). message (err n)) (sym number-in)) tt tt
 
 -- ---- REPL
 module _ (s b : List ℕ) (kl : ℕ) (bs : Bytes s) (long : 8 ≤ length s) (is : b ≡ bodyIn s) (kle : kl ≡ klen b) where
@@ -345,7 +345,7 @@ module _ (s b : List ℕ) (kl : ℕ) (bs : Bytes s) (long : 8 ≤ length s) (is 
           let w = value-place s b long is (kl + 11) (length (valuePart (kl + 11) b)) h v ∙ sym (value-part (kl + 11) b h) in
           rw (← is) (found s holds (repl (entryIn b)) (Repl 5 kl (kl + 11 + 2 + 4) (length (valuePart (kl + 11) b)) (getD b (kl + 1) 0) st) well (p ∙ repl-faults)
           (ap₂ (λ (x y : List ℕ). message (repl (entryOf x y (getD b (kl + 1) 0) st))) k w ∙ ap (λ (x : Entry). message (repl x)) entry-in)
-          (omega arith, omega arith))
+          (refl, omega arith) (omega arith, omega arith))
 
 -- ---- the whole frame
 module _ (s : List ℕ) (h : envelopeHolds s ≡ true) where
@@ -366,12 +366,13 @@ module _ (s : List ℕ) (h : envelopeHolds s ≡ true) where
       let t = getD s 2 0 in
       record {
         means = sym (by-type ∙ rw (ne-eqb t 1 n1, ne-eqb t 2 n2, ne-eqb t 3 n3, ne-eqb t 4 n4, ne-eqb t 16 (λ e. n16 (inl e)), ne-eqb t 17 n17, ne-eqb t 18 (λ e. n16 (inr e)), ne-eqb t 20 n20));
+        offsets = tt;
         within = tt;
       }
 
 pub frame-bad : (s : List ℕ) → envelopeHolds s ≡ false → Reads s (Refused BadFrame) (readFrame s)
 unfolding readFrame
-frame-bad s h = record { means = rw h; within = tt }
+frame-bad s h = record { means = rw h; offsets = tt; within = tt }
 
 pub two-or-three : (t : ℕ) → 2 ≤ t → t < 4 → (t ≡ 2) ⊎ (t ≡ 3)
 two-or-three t l h = elim (test (eqb t 2)) [

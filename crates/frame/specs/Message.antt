@@ -1,13 +1,13 @@
--- The messages, with their bytes, and which of them are refused.
+-- The messages, and which of them are refused.
 use Prim.Native.Nat.{ℕ, _^_, _<_}
 use mathlib.Core.Bool.{Bool, false, cond, _||_}
 use mathlib.Core.List.{List}
 use lib.ListN.{length}
-use lib.Dec.{ltb, leb, eqb}
+use lib.Dec.{ltb, eqb}
 use Rattle.entry.specs.Key.{badKey}
-use Rattle.entry.specs.Entry.{Entry, badFlag}
+use Rattle.entry.specs.Entry.{Entry, badTime, badFlag}
 
--- put and repl have a key and a value, get and del a key, value a value, err a refusal number
+-- put has a key and a value, get and del a key, repl an entry, value a value, err a refusal number
 pub data Message : Type 0 where
   put : List ℕ → List ℕ → Message
   get : List ℕ → Message
@@ -23,7 +23,7 @@ unfoldable pub timeFault : Message → Bool
 timeFault (put k v) = false
 timeFault (get k) = false
 timeFault (del k) = false
-timeFault (repl e) = leb (2 ^ 48) (e .stamp .phys)
+timeFault (repl e) = badTime (e .stamp .phys)
 timeFault ok = false
 timeFault (value v) = false
 timeFault notFound = false
@@ -66,7 +66,7 @@ argumentFault (value v) = false
 argumentFault notFound = false
 argumentFault (err n) = eqb n 0 || ltb 255 n
 
--- the first of 9, 1, 2 and 17 that a message to be written fails, or 0 if it is none
+-- the first of 9, 1, 2 and 17 that a message to be written fails, or 0 if it fails none
 unfoldable pub messageRefusal : Message → ℕ
 messageRefusal m =
     cond (timeFault m) 9

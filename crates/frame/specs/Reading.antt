@@ -23,7 +23,7 @@ pub data Outcome : Type 0 where
   refused : ℕ → Outcome
 
 -- ---- the envelope
--- the number in w bytes at a place
+-- the number in w bytes at an offset
 unfoldable pub numberAt : ℕ → ℕ → List ℕ → ℕ
 numberAt at w s = num (field at w s)
 
@@ -55,7 +55,7 @@ klen b = numberAt 0 1 b
 unfoldable pub keyIn : List ℕ → List ℕ
 keyIn b = field 1 (klen b) b
 
--- the value whose vlen stands at a place
+-- the value whose vlen stands at an offset
 unfoldable pub valueIn : ℕ → List ℕ → List ℕ
 valueIn at b = field (at + 2) (numberAt at 2 b) b
 
@@ -69,7 +69,7 @@ entryIn b = entryOf (keyIn b) (valueIn (klen b + 11) b) (numberAt (klen b + 1) 1
 unfoldable pub keyEnds : List ℕ → Bool
 keyEnds b = eqb (length b) (klen b + 1)
 
--- the body ends with the value whose vlen stands at a place
+-- the body ends with the value whose vlen stands at an offset
 unfoldable pub valueEnds : ℕ → List ℕ → Bool
 valueEnds at b = eqb (length b) (at + 2 + numberAt at 2 b)
 
@@ -99,7 +99,7 @@ unfoldable pub readFrame : List ℕ → Outcome
 readFrame s = cond (envelopeHolds s) (readBody (typeIn s) (bodyIn s)) (refused 3)
 
 -- ---- the answer of `read`
--- what a case says of the frame that was read: a key and a value stand at a place, with a length
+-- what a case says of the frame that was read: a key and a value stand at an offset, with a length
 abbrev pub meaning : List ℕ → Read → Outcome
 meaning s (Put ka kl va vl) = message (put (field ka kl s) (field va vl s))
 meaning s (Get ka kl) = message (get (field ka kl s))
@@ -111,7 +111,7 @@ meaning s NotFound = message notFound
 meaning s (Err n) = message (err n)
 meaning s (Refused r) = refused (number r)
 
--- each place lies within the frame
+-- each part lies within the frame
 abbrev pub Within : List ℕ → Read → Type 0
 Within s (Put ka kl va vl) = (ka + kl ≤ length s) × (va + vl ≤ length s)
 Within s (Get ka kl) = ka + kl ≤ length s
@@ -123,7 +123,20 @@ Within s NotFound = Unit {0}
 Within s (Err n) = Unit {0}
 Within s (Refused r) = Unit {0}
 
--- the answer r to a frame s means o, and its places lie within the frame
+-- the offset of each part: a key comes after LEN, TYPE, FLAGS and klen, a value after its vlen
+abbrev pub Offsets : Read → Type 0
+Offsets (Put ka kl va vl) = (ka ≡ 5) × (va ≡ kl + 7)
+Offsets (Get ka kl) = ka ≡ 5
+Offsets (Del ka kl) = ka ≡ 5
+Offsets (Repl ka kl va vl f stamp) = (ka ≡ 5) × (va ≡ kl + 17)
+Offsets Ok = Unit {0}
+Offsets (Value va vl) = va ≡ 6
+Offsets NotFound = Unit {0}
+Offsets (Err n) = Unit {0}
+Offsets (Refused r) = Unit {0}
+
+-- the answer r to a frame s means o, its offsets are those of the frame's layout, and its parts lie within the frame
 pub record Reads (s : List ℕ) (r : Read) (o : Outcome) : Type 0 where
   pub means : meaning s r ≡ o
+  pub offsets : Offsets r
   pub within : Within s r

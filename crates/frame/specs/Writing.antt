@@ -41,7 +41,7 @@ pub record WritesFrame (n : ℕ) (f out : List ℕ) (r : Wrote) (after : List �
 abbrev pub Writes : Message → List ℕ → Wrote → List ℕ → Type 0
 Writes m out r after = WritesFrame (messageRefusal m) (frameOf m) out r after
 
--- a body of n bytes at place 4 is put into its frame
+-- a body of n bytes at offset 4 is put into its frame
 pub record Sealed (t n : ℕ) (out : List ℕ) (r : Wrote) (after : List ℕ) : Type 0 where
   pub answer : r ≡ Bytes (n + 8)
   pub buffer : after ≡ envelope t (field 4 n out) ++ drop (n + 8) out

@@ -2,7 +2,7 @@
 use entry::Refusal;
 use entry::Stamp;
 
-// What a frame says. A key or a value is given by its place in the frame and its length.
+// What a frame says. A key or a value is given by its offset in the frame and its length.
 pub enum Read {
     Put {
         key_at: usize,

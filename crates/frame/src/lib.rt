@@ -50,7 +50,7 @@ const NOT_FOUND: u8 = 18;
 
 const ERR: u8 = 20;
 
-// What exactly one frame says: a message, with the places of its key and value in the frame, or the refusal.
+// What exactly one frame says: a message, with the offsets of its key and value in the frame, or the refusal.
 pub fn read(frame: &[u8]) -> Read
     ensures { λ r. ⌜ Reads (now (frame .entry)) r (readFrame (now (frame .entry))) ⌝ }
 {

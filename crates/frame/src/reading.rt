@@ -1,4 +1,4 @@
-// The parts of the reader: the envelope, and the bodies. A body is read as a part of its frame, so that places are the frame's.
+// The parts of the reader: the envelope, and the bodies. A body is read as a part of its frame, so that offsets are the frame's.
 use crate::GET;
 use crate::MAX_FRAME;
 use crate::OK;
@@ -22,7 +22,7 @@ ghost use Rattle.entry.specs.Order.{least};
 ghost use Rattle.entry.specs.Entry.{entryOf, badFlag};
 ghost use Rattle.frame.specs.Reading.{numberAt, envelopeHolds, bodyIn, klen, stampIn, valueEnds, readBody, Reads};
 
-// The number in `width` bytes at a place.
+// The number in `width` bytes at an offset.
 fn number_at(s: &[u8], at: usize, width: usize) -> u64
     requires { ⌜ (width ≤ 8) × (at + width ≤ length (now s)) ⌝ }
     ensures { λ r. ⌜ r ≡ numberAt at width (now (s .entry)) ⌝ }
@@ -71,7 +71,7 @@ fn key_length(body: &[u8]) -> usize
     body[0] as usize
 }
 
-// Whether a body ends with the value whose length stands at a place.
+// Whether a body ends with the value whose length stands at an offset.
 fn value_ends(body: &[u8], at: usize) -> bool
     requires { ⌜ at < 300 ⌝ }
     ensures { λ r. ⌜ r ≡ valueEnds at (now (body .entry)) ⌝ }
@@ -92,7 +92,7 @@ fn flag_holds(flag: u8, value: &[u8]) -> bool
     flag < TOMBSTONE
 }
 
-// The stamp at a place.
+// The stamp at an offset.
 fn stamp_at(body: &[u8], at: usize) -> Stamp
     requires { ⌜ at + 9 ≤ length (now body) ⌝ }
     ensures { λ r. ⌜ r ≡ stampIn at (now (body .entry)) ⌝ }

@@ -62,7 +62,7 @@ pub fn put_entry(out: &mut [u8], key: &[u8], value: &[u8], flag: u8, stamp: Stam
     put_counted(&mut out[value_at..], 2, value);
 }
 
-// Puts the body of n bytes at place 4 into its frame.
+// Puts the body of n bytes at offset 4 into its frame.
 pub fn seal(out: &mut [u8], kind: u8, n: usize) -> Wrote
     requires { ⌜ (n ≤ 592) × (n + 8 ≤ length (now out)) ⌝ }
     ensures { λ r. ⌜ Sealed kind n (now (out .entry)) r (now (out .exit)) ⌝ }

@@ -23,7 +23,7 @@ unfoldable pub slotsSound : ℕ → List ℕ → Bool
 slotsSound zero s = true
 slotsSound (suc n) s = slotSound (take 596 s) && slotsSound n (drop 596 s)
 
--- r is the number in the w bytes at a place
+-- r is the number in the w bytes at an offset
 pub record NumberAt (at w : ℕ) (s : List ℕ) (r : ℕ) : Type 0 where
   pub is : r ≡ num (field at w s)
   pub fits : r < 256 ^ w

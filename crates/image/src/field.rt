@@ -1,11 +1,11 @@
-// Parts of a slice by place and width, as much of them as there is.
+// Parts of a slice by offset and width, as much of them as there is.
 use wire::get_be;
 ghost use mathlib.Core.Path.{_≡_};
 ghost use Prim.Native.Nat.{_≤_};
 ghost use Rattle.wire.specs.Fill.{field};
 ghost use Rattle.image.specs.Check.{NumberAt};
 
-// The w bytes at a place.
+// The w bytes at an offset.
 pub fn part(s: &[u8], at: usize, w: usize) -> &[u8]
     ensures { λ r. ⌜ now r ≡ field at w (now (s .entry)) ⌝ }
 {
@@ -20,7 +20,7 @@ pub fn part(s: &[u8], at: usize, w: usize) -> &[u8]
     &s[at..end]
 }
 
-// The number in the w bytes at a place.
+// The number in the w bytes at an offset.
 pub fn number(s: &[u8], at: usize, w: usize) -> u64
     requires { ⌜ w ≤ 8 ⌝ }
     ensures { λ r. ⌜ NumberAt at w (now (s .entry)) r ⌝ }

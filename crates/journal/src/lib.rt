@@ -1,7 +1,7 @@
 // A journal is a run of records, each a time (6 bytes) and a frame. This cuts the first record from the bytes at hand.
 use wire::get_be;
 ghost use mathlib.Core.Path.{_≡_};
-ghost use Rattle.journal.specs.Journal.{cutOf};
+ghost use Rattle.journal.specs.Journal.{meaning, pieceOf};
 
 // What stands at the front of some bytes of a journal.
 pub enum Cut {
@@ -16,7 +16,7 @@ pub enum Cut {
 }
 
 pub fn cut_record(bytes: &[u8]) -> Cut
-    ensures { λ r. ⌜ r ≡ cutOf (now (bytes .entry)) ⌝ }
+    ensures { λ r. ⌜ meaning r ≡ pieceOf (now (bytes .entry)) ⌝ }
 {
     let n = bytes.len();
     if n == 0 {

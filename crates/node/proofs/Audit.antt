@@ -14,11 +14,11 @@ use Rattle.wire.proofs.Tests.{test}
 use Rattle.wire.proofs.Order.{sameBytes-refl}
 use Rattle.entry.specs.declared.Stamp.{Stamp}
 use Rattle.entry.specs.Key.{badKey}
-use Rattle.entry.specs.Entry.{Entry, entryOf, beats, refusalOf}
+use Rattle.entry.specs.Entry.{Entry, entryOf, beats, refusalOf, badTime}
 use Rattle.entry.proofs.Order.{beats-asym}
 use Rattle.entry.proofs.Accept.{accepted}
 use Rattle.clock.specs.declared.Clock.{Clock}
-use Rattle.clock.specs.Clock.{Stepped, stampOf, raise, badTime, sendStep, receiveStep}
+use Rattle.clock.specs.Clock.{Stepped, stampOf, raise, sendStep, receiveStep}
 use Rattle.clock.specs.Clock as clock
 use Rattle.clock.proofs.Rising.{send-rises}
 use Rattle.frame.specs.Message.{Message}

@@ -13,6 +13,8 @@ use Rattle.wire.proofs.Tests.{test}
 use Rattle.wire.proofs.Fields.{field-between}
 use Rattle.entry.specs.declared.Stamp.{Stamp}
 use Rattle.entry.specs.Key.{badKey}
+use Rattle.entry.specs.Refusal.{number}
+use Rattle.entry.specs.declared.Refusal.{Refusal}
 use Rattle.entry.specs.Entry.{Entry, entryOf}
 use Rattle.clock.specs.declared.Clock.{Clock}
 use Rattle.clock.specs.Clock.{Stepped, stampOf, sendStep, receiveStep}
@@ -32,7 +34,7 @@ use Rattle.store.proofs.HeldLaws.{find-some}
 use Rattle.store.proofs.Members.{all-fit}
 use Rattle.store.proofs.OnSound.{unchecked-on-sound}
 use Rattle.node.specs.Handler.{refused, offered, writeLocally, replicate, gets, serve, serveOutcome}
-use Rattle.node.specs.Request.{kindOf, refusalIn}
+use Rattle.node.specs.Request.{kindOf}
 
 -- ---- the clock's answer
 module _ (store : List ℕ) (c n : Clock) where
@@ -110,8 +112,12 @@ module _ (s : List ℕ) (c : Clock) (now : ℕ) (frame : List ℕ) (m : Read) wh
   unfolding serveOutcome serve
   replicated ka kl va vl f t k v e p q = rw (e, p, q)
 
--- what is no request is refused
-pub no-request : (s : List ℕ) (c : Clock) (now : ℕ) (frame : List ℕ) (m : Read) → 4 ≤ kindOf m → refused (refusalIn m) ≡ serveOutcome s c now (meaning frame m)
+-- a refusal leaves with its number, and a reply with 3
+pub no-message : (s : List ℕ) (c : Clock) (now : ℕ) (frame : List ℕ) (m : Read) (r : Refusal) → m ≡ read.Refused r → refused (number r) ≡ serveOutcome s c now (meaning frame m)
+unfolding serveOutcome
+no-message s c now frame m r e = rw e
+
+pub no-request : (s : List ℕ) (c : Clock) (now : ℕ) (frame : List ℕ) (m : Read) → 5 ≤ kindOf m → refused 3 ≡ serveOutcome s c now (meaning frame m)
 unfolding serveOutcome serve
 no-request s c now frame (read.Put ka kl va vl) h = absurd (omega arith)
 no-request s c now frame (read.Get ka kl) h = absurd (omega arith)
@@ -121,7 +127,7 @@ no-request s c now frame read.Ok h = refl
 no-request s c now frame (read.Value va vl) h = refl
 no-request s c now frame read.NotFound h = refl
 no-request s c now frame (read.Err n) h = refl
-no-request s c now frame (read.Refused r) h = refl
+no-request s c now frame (read.Refused r) h = absurd (omega arith)
 
 -- the places of a message lie within its frame
 module _ (frame : List ℕ) (m : Read) (w : Within frame m) where

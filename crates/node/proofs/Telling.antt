@@ -13,9 +13,9 @@ use borrow.Author.Tests.{eqb-false, le-ltb}
 use Rattle.wire.proofs.Tests.{test}
 use Rattle.entry.specs.declared.Stamp.{Stamp}
 use Rattle.entry.specs.Key.{badKey}
-use Rattle.entry.specs.Entry.{Entry, entryOf, beats, badFlag, refusalOf}
+use Rattle.entry.specs.Entry.{Entry, entryOf, beats, badFlag, refusalOf, badTime}
 use Rattle.clock.specs.declared.Clock.{Clock}
-use Rattle.clock.specs.Clock.{Stepped, stampOf, badTime, sendStep, receiveStep}
+use Rattle.clock.specs.Clock.{Stepped, stampOf, sendStep, receiveStep}
 use Rattle.clock.specs.Clock as clock
 use Rattle.clock.proofs.Steps.{Numbered as StepNumbered, send-numbered, receive-numbered}
 use Rattle.frame.specs.Message.{Message, messageRefusal, InRange, keyFault, valueFault}

@@ -10,8 +10,8 @@ use lib.Dec.{ltb, leb, eqb}
 use borrow.Author.Tests.{eqb-true, eqb-false, ne-eqb, leb-true, lt-leb, le-ltb}
 use Rattle.wire.specs.Number.{Bytes}
 use Rattle.wire.proofs.Tests.{test, clash}
+use Rattle.entry.specs.Entry.{badTime}
 use Rattle.clock.specs.declared.Clock.{Clock}
-use Rattle.clock.specs.Clock.{badTime}
 use Rattle.frame.specs.Message.{Message, InRange}
 use Rattle.frame.specs.Message as message
 use Rattle.frame.specs.Reading.{Outcome, typeIn, bodyIn, envelopeHolds, outcomeOf, readBody, readFrame}

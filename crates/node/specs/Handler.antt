@@ -5,9 +5,9 @@ use mathlib.Core.List.{List, [], _++_}
 use lib.ListN.{length, drop}
 use lib.Dec.{ltb, leb, eqb}
 use Rattle.entry.specs.declared.Stamp.{Stamp}
-use Rattle.entry.specs.Entry.{Entry, entryOf}
+use Rattle.entry.specs.Entry.{Entry, entryOf, badTime}
 use Rattle.clock.specs.declared.Clock.{Clock}
-use Rattle.clock.specs.Clock.{Stepped, stampOf, badTime, sendStep, receiveStep}
+use Rattle.clock.specs.Clock.{Stepped, stampOf, sendStep, receiveStep}
 use Rattle.clock.specs.Clock as clock
 use Rattle.frame.specs.Message as message
 use Rattle.frame.specs.Layout.{frameOf}

@@ -4,7 +4,6 @@ use mathlib.Core.Path.{_≡_}
 use mathlib.Core.Bool.{true}
 use mathlib.Core.List.{List}
 use lib.ListN.{length}
-use Rattle.entry.specs.Refusal.{number}
 use Rattle.clock.specs.declared.Clock.{Clock}
 use Rattle.frame.specs.declared.answer.Read.{Read}
 use Rattle.frame.specs.declared.answer.Read.the-variants as read
@@ -43,29 +42,17 @@ pub record Ready (store reply : List ℕ) : Type 0 where
   pub is-sound : sound store ≡ true
   pub room : 600 ≤ length reply
 
--- the messages in the order in which they are looked for: GET, REPL, PUT, DEL, anything else
+-- what was read, in the order in which it is looked for: a refusal, GET, REPL, PUT, DEL, a reply
 abbrev pub kindOf : Read → ℕ
-kindOf (read.Put ka kl va vl) = 2
-kindOf (read.Get ka kl) = 0
-kindOf (read.Del ka kl) = 3
-kindOf (read.Repl ka kl va vl f stamp) = 1
-kindOf read.Ok = 4
-kindOf (read.Value va vl) = 4
-kindOf read.NotFound = 4
-kindOf (read.Err n) = 4
-kindOf (read.Refused r) = 4
-
--- the refusal of what is no request: the reader's own, or 3 for a reply
-abbrev pub refusalIn : Read → ℕ
-refusalIn (read.Put ka kl va vl) = 3
-refusalIn (read.Get ka kl) = 3
-refusalIn (read.Del ka kl) = 3
-refusalIn (read.Repl ka kl va vl f stamp) = 3
-refusalIn read.Ok = 3
-refusalIn (read.Value va vl) = 3
-refusalIn read.NotFound = 3
-refusalIn (read.Err n) = 3
-refusalIn (read.Refused r) = number r
+kindOf (read.Put ka kl va vl) = 3
+kindOf (read.Get ka kl) = 1
+kindOf (read.Del ka kl) = 4
+kindOf (read.Repl ka kl va vl f stamp) = 2
+kindOf read.Ok = 5
+kindOf (read.Value va vl) = 5
+kindOf read.NotFound = 5
+kindOf (read.Err n) = 5
+kindOf (read.Refused r) = 0
 
 -- what was read of a frame can be served, and is none of the first k kinds
 pub record Asks (k : ℕ) (frame : List ℕ) (m : Read) : Type 0 where

@@ -4,6 +4,7 @@ mod request;
 use clock::Clock;
 use entry::Refusal;
 use entry::TIME_LIMIT;
+use frame::Read;
 use frame::read;
 use image::is_sound;
 use request::refuse;
@@ -65,5 +66,9 @@ pub fn handle(store: &mut [u8], clock: Clock, time: u64, frame: &[u8], reply: &m
     if is_reply(frame) {
         return refuse(clock, Refusal::BadFrame, reply);
     }
-    serve(store, clock, time, frame, read(frame), reply)
+    let message = read(frame);
+    if let Read::Refused(refusal) = message {
+        return refuse(clock, refusal, reply);
+    }
+    serve(store, clock, time, frame, message, reply)
 }

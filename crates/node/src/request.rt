@@ -29,7 +29,7 @@ ghost use Rattle.clock.specs.Clock.{sendStep, receiveStep};
 ghost use Rattle.frame.specs.Message.{ok, value as valueOf, notFound};
 ghost use Rattle.store.specs.Lookup.{lookupAnswer, valuePart};
 ghost use Rattle.node.specs.Handler.{offered, writeLocally, replicate, gets};
-ghost use Rattle.node.specs.Request.{Ready, Replies, Refuses, Settles, Serves, Asks, kindOf, refusalIn, bytesOf};
+ghost use Rattle.node.specs.Request.{Ready, Replies, Refuses, Settles, Serves, Asks, bytesOf};
 
 // How many bytes a writer wrote.
 fn count(wrote: Wrote) -> usize
@@ -201,17 +201,6 @@ fn take_replica(
     }
 }
 
-// Why what was read is no request.
-fn refusal_of(message: Read) -> Refusal
-    ensures { λ r. ⌜ number r ≡ refusalIn message ⌝ }
-{
-    if let Read::Refused(refusal) = message {
-        refusal
-    } else {
-        Refusal::BadFrame
-    }
-}
-
 fn serve_del(
     store: &mut [u8],
     clock: Clock,
@@ -221,11 +210,11 @@ fn serve_del(
     reply: &mut [u8],
 ) -> Handled
     requires { ⌜ Ready (now store) (now reply) ⌝ }
-    requires { ⌜ Asks 3 (now frame) message ⌝ }
+    requires { ⌜ Asks 4 (now frame) message ⌝ }
     ensures { λ r. ⌜ Serves (now (store .entry)) clock time (now (frame .entry)) message (now (reply .entry)) r (now (store .exit)) (now (reply .exit)) ⌝ }
 {
     let Read::Del { key_at, key_len } = message else {
-        return refuse(clock, refusal_of(message), reply);
+        return refuse(clock, Refusal::BadFrame, reply);
     };
     let end = key_at + key_len;
     write_locally(
@@ -248,7 +237,7 @@ fn serve_put(
     reply: &mut [u8],
 ) -> Handled
     requires { ⌜ Ready (now store) (now reply) ⌝ }
-    requires { ⌜ Asks 2 (now frame) message ⌝ }
+    requires { ⌜ Asks 3 (now frame) message ⌝ }
     ensures { λ r. ⌜ Serves (now (store .entry)) clock time (now (frame .entry)) message (now (reply .entry)) r (now (store .exit)) (now (reply .exit)) ⌝ }
 {
     let Read::Put {
@@ -282,7 +271,7 @@ fn serve_repl(
     reply: &mut [u8],
 ) -> Handled
     requires { ⌜ Ready (now store) (now reply) ⌝ }
-    requires { ⌜ Asks 1 (now frame) message ⌝ }
+    requires { ⌜ Asks 2 (now frame) message ⌝ }
     ensures { λ r. ⌜ Serves (now (store .entry)) clock time (now (frame .entry)) message (now (reply .entry)) r (now (store .exit)) (now (reply .exit)) ⌝ }
 {
     let Read::Repl {
@@ -310,7 +299,7 @@ fn serve_repl(
     )
 }
 
-// Serves what was read: a GET, or one of the others.
+// Serves what was read and not refused: a GET, or one of the others.
 pub fn serve(
     store: &mut [u8],
     clock: Clock,
@@ -320,7 +309,7 @@ pub fn serve(
     reply: &mut [u8],
 ) -> Handled
     requires { ⌜ Ready (now store) (now reply) ⌝ }
-    requires { ⌜ Asks 0 (now frame) message ⌝ }
+    requires { ⌜ Asks 1 (now frame) message ⌝ }
     ensures { λ r. ⌜ Serves (now (store .entry)) clock time (now (frame .entry)) message (now (reply .entry)) r (now (store .exit)) (now (reply .exit)) ⌝ }
 {
     let Read::Get { key_at, key_len } = message else {

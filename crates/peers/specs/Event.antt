@@ -1,11 +1,12 @@
 -- The answer of each event and the table after it.
-use Prim.Native.Nat.{ℕ, _+_, _^_}
+use Prim.Native.Nat.{ℕ, _+_}
 use mathlib.Core.Path.{_≡_}
 use mathlib.Core.Bool.{cond, not, _||_}
 use mathlib.Core.List.{List, _∷_, _++_}
 use lib.ListN.{drop, set, replicate}
 use lib.Dec.{ltb, leb, eqb}
 use Rattle.entry.specs.Refusal.{number}
+use Rattle.entry.specs.Entry.{badTime}
 use Rattle.peers.specs.declared.Row.{Row}
 use Rattle.peers.specs.declared.PeerTable.{PeerTable}
 use Rattle.peers.specs.declared.Changed.{Changed}
@@ -42,7 +43,7 @@ abbrev pub emptyTable : PeerTable
 emptyTable = record { rows = replicate 10 noRow; count = 0 }
 
 unfoldable pub freshAnswer : ℕ → ℕ
-freshAnswer now = cond (leb (2 ^ 48) now) 9 0
+freshAnswer now = cond (badTime now) 9 0
 
 -- the own row alone
 unfoldable pub freshTable : ℕ → ℕ → ℕ → ℕ → ℕ → PeerTable
@@ -54,7 +55,7 @@ afterFresh i a p n now = unlessRefused (freshAnswer now) emptyTable (freshTable 
 -- ---- added: 9, 17, 14, 13
 unfoldable pub addAnswer : ℕ → ℕ → PeerTable → ℕ
 addAnswer i now t =
-    cond (leb (2 ^ 48) now) 9
+    cond (badTime now) 9
     (cond (not (soundTable t)) 17
     (cond (hasRow i (rowsOf t)) 14
     (cond (leb 10 (t .count)) 13
@@ -77,13 +78,13 @@ rowAnswer i n rows =
 
 unfoldable pub heardAnswer : ℕ → ℕ → ℕ → PeerTable → ℕ
 heardAnswer i n now t =
-    cond (leb (2 ^ 48) now) 9
+    cond (badTime now) 9
     (cond (not (soundTable t)) 17
     (rowAnswer i n (rowsOf t)))
 
 unfoldable pub reportedAnswer : ℕ → ℕ → ℕ → ℕ → PeerTable → ℕ
 reportedAnswer i s n now t =
-    cond (leb (2 ^ 48) now) 9
+    cond (badTime now) 9
     (cond (ltb 2 s || not (soundTable t)) 17
     (rowAnswer i n (rowsOf t)))
 
@@ -100,7 +101,7 @@ afterReported i s n now t = unlessRefused (reportedAnswer i s n now t) t (withRo
 -- ---- tick: 9, 17
 unfoldable pub tickAnswer : ℕ → PeerTable → ℕ
 tickAnswer now t =
-    cond (leb (2 ^ 48) now) 9
+    cond (badTime now) 9
     (cond (not (soundTable t)) 17
     0)
 

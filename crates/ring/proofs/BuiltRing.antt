@@ -10,14 +10,13 @@ use lib.ListN.{length}
 use lib.Seq.{take-at}
 use borrow.Author.Tests.{lt-ltb, le-leb, ltb-true, ltb-false, eqb-true, eqb-false}
 use Rattle.wire.specs.Number.{Bytes}
-use Rattle.wire.proofs.Tests.{clash}
+use Rattle.wire.proofs.Tests.{clash, cases}
 use Rattle.checksum.proofs.Bounds.{fmix32-bound}
 use Rattle.ring.specs.Lists.{elem, distinct}
 use Rattle.ring.specs.Place.{tokenOf, placeNumber, placeOf, node, vnode}
 use Rattle.ring.specs.Build.{nodePlaces, places, ringOf, badArguments, buildAnswer, buildOutput}
 use Rattle.ring.specs.Sound.{inRange, soundRing}
 use Rattle.ring.specs.Meaning.{PlaceParts, PlaceOrder, BuiltRing, BuildsRing}
-use Rattle.ring.proofs.Cases.{cases}
 use Rattle.ring.proofs.Answers.{given, not-given}
 use Rattle.ring.proofs.Elements.{not-in-nil, elem-head, elem-tail, elem-append, elem-sorted, distinct-cons, distinct-head, distinct-tail, distinct-sorted, distinct-append}
 use Rattle.ring.proofs.Sorting.{sorted-ascending}

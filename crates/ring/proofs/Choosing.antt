@@ -14,6 +14,7 @@ use Rattle.peers.specs.declared.Admission.{Admission}
 use Rattle.peers.specs.Table.{soundTable}
 use Rattle.peers.specs.Admitted.{admits, admittedFlags}
 use Rattle.peers.proofs.Flags.{flag-at}
+use Rattle.wire.proofs.Tests.{or-false}
 use Rattle.ring.specs.Answer.{Answer, gives, refuses, written}
 use Rattle.ring.specs.Lists.{filter, firsts}
 use Rattle.ring.specs.Place.{node}
@@ -21,7 +22,6 @@ use Rattle.ring.specs.Sound.{soundRing}
 use Rattle.ring.specs.Walk.{before, met, ownersOf, admittedWithPlace}
 use Rattle.ring.specs.Owners.{badRequest, ownersAnswer, ownersOutput}
 use Rattle.ring.specs.Helpers.{turned, flagged, Walked}
-use Rattle.ring.proofs.Cases.{neither}
 use Rattle.ring.proofs.Answers.{told}
 use Rattle.ring.proofs.Meeting.{around-turned}
 use Rattle.ring.proofs.NodesMet.{length-met}
@@ -60,7 +60,7 @@ module _ (flags : List Bool) (peers : PeerTable) (a : Admission) (e : flags ≡ 
 -- a request that passes the checks of 17 asks at most 3
 pub at-most-3 : (peers : PeerTable) (r : ℕ) → badRequest peers r ≡ false → r ≤ 3
 unfolding badRequest
-at-most-3 peers r h = ltb-false 3 r (neither (ltb r 1) (ltb 3 r) (neither (ltb r 1 || ltb 3 r) (not (soundTable peers)) h .0) .1)
+at-most-3 peers r h = ltb-false 3 r (or-false (ltb r 1) (ltb 3 r) (or-false (ltb r 1 || ltb 3 r) (not (soundTable peers)) h .0) .1)
 
 module _ (ring : List ℕ) (peers : PeerTable) (a : Admission) (r : ℕ) (out : List ℕ) where
   pub says : (x : ℕ) (b : Answer) → ownersAnswer ring peers a r out ≡ b

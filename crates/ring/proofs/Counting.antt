@@ -7,8 +7,8 @@ use native.Mathlib.Omega.{arith}
 use lib.Dec.{eqb}
 use lib.ListN.{length}
 use borrow.Author.Tests.{eqb-true, eqb-false, ne-eqb}
+use Rattle.wire.proofs.Tests.{cases}
 use Rattle.ring.specs.Lists.{elem, distinct, countBelow}
-use Rattle.ring.proofs.Cases.{cases}
 use Rattle.ring.proofs.Elements.{elem-head, elem-tail, distinct-head, distinct-tail}
 
 pub countBelow-ext : (f g : ℕ → Bool) (m : ℕ) → ((k : ℕ) → k < m → f k ≡ g k) → countBelow f m ≡ countBelow g m

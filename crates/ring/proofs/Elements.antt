@@ -1,15 +1,17 @@
 -- Laws of `elem` and `distinct`.
 use mathlib.Core.Path.{_≡_, refl, sym, ap, _∙_}
-use mathlib.Core.Bool.{Bool, true, false, not, _&&_, _||_, or-true}
+use mathlib.Core.Bool.{Bool, true, false, not, _&&_, _||_, or-true, or-assoc, or-comm}
 use mathlib.Core.List.{List, [], _∷_, _++_}
 use Prim.Native.Nat.{ℕ, zero, suc, _<_}
 use native.Mathlib.Omega.{arith}
 use lib.ListN.{length, getD, take, drop, take-append-drop}
 use lib.Dec.{leb, eqb}
 use borrow.Author.Tests.{eqb-true, eqb-false, eq-eqb, ne-eqb, not-true}
-use Rattle.wire.proofs.Tests.{clash, and-true}
+use Rattle.wire.proofs.Tests.{clash, and-true, cases, or-false}
 use Rattle.ring.specs.Lists.{elem, distinct, filter, firsts, insert, sorted}
-use Rattle.ring.proofs.Cases.{cases, or-swap, neither}
+
+or-swap : (a b d : Bool) → (a || (b || d)) ≡ (b || (a || d))
+or-swap a b d = sym (or-assoc a b d) ∙ ap (λ (e : Bool). e || d) (or-comm a b) ∙ or-assoc b a d
 
 -- ---- what is in a list
 pub not-in-nil : {A : Type 0} (k : ℕ) → elem k [] ≡ true → A
@@ -111,14 +113,14 @@ distinct-take zero l d = refl
 distinct-take (suc r) [] d = refl
 distinct-take (suc r) (n ∷ l) d =
     distinct-cons n (take r l)
-    (neither (elem n (take r l)) (elem n (drop r l)) (sym (elem-cut n r l) ∙ distinct-head n l d) .0)
+    (or-false (elem n (take r l)) (elem n (drop r l)) (sym (elem-cut n r l) ∙ distinct-head n l d) .0)
     (distinct-take r l (distinct-tail n l d))
 
 distinct-insert : (p : ℕ) (l : List ℕ) → elem p l ≡ false → distinct l ≡ true → distinct (insert p l) ≡ true
 unfolding insert elem
 distinct-insert p [] h d = distinct-cons p [] h d
 distinct-insert p (q ∷ l) h d =
-    let u = neither (eqb q p) (elem p l) h in
+    let u = or-false (eqb q p) (elem p l) h in
     cases (leb p q) (λ e. rw e (distinct-cons p (q ∷ l) h d))
     (λ e. rw e
     (distinct-cons q (insert p l)

@@ -1,23 +1,24 @@
--- A ring that grows at the front of a slice, a place at a time, and the answer of building it, check by check.
+-- The places of all ids, written one after the other and sorted, and the answer of building a ring, check by check.
 use mathlib.Core.Path.{_≡_, refl, sym, ap, ap₂, _∙_}
 use mathlib.Core.Bool.{true, false, not, _||_}
-use mathlib.Core.List.{List, [], _∷_, _++_}
+use mathlib.Core.List.{List, [], _∷_, _++_, append-assoc}
 use Prim.Native.Nat.{ℕ, zero, suc, _+_, _*_, _≤_, _<_, _-_}
 use native.Mathlib.Nat.{add-comm, suc-mul, le-trans, mul-le-mul-left, mul-le-mul-right}
 use native.Mathlib.Numerals.{add-one}
 use native.Mathlib.Omega.{arith}
 use lib.Dec.{ltb}
-use lib.ListN.{length, getD, take, drop, length-append, take-append-drop}
-use lib.Seq.{drop-cons, drop-drop, drop-length, take-at, drop-at, length-take-le}
+use lib.ListN.{length, getD, set, take, drop, length-append, drop-of-length-le}
+use lib.Seq.{drop-cons, take-at, drop-at, length-take-le}
+use borrow.Rule.Slice.PartMut.{midOf, putMid}
 use borrow.Author.Tests.{lt-ltb, le-ltb, ltb-false, not-false}
+use Rattle.wire.proofs.Tests.{or-false}
 use Rattle.ring.specs.Answer.{Answer, gives, refuses, written}
 use Rattle.ring.specs.Lists.{distinct, sorted}
 use Rattle.ring.specs.Place.{placeOf}
 use Rattle.ring.specs.Build.{nodePlaces, places, ringOf, badArguments, buildAnswer, buildOutput}
-use Rattle.ring.specs.Helpers.{carry, Inserted}
-use Rattle.ring.proofs.Cases.{neither}
 use Rattle.ring.proofs.Answers.{told}
-use Rattle.ring.proofs.Sorting.{length-sorted, carry-sorted}
+use Rattle.ring.proofs.Sorting.{length-sorted}
+use Rattle.ring.proofs.Merging.{next-written, all-written}
 
 -- ---- how many places there are
 length-nodePlaces : (n v s : ℕ) → length (nodePlaces n v s) ≡ v
@@ -37,97 +38,71 @@ pub length-ring : (ids : List ℕ) (v s : ℕ) → length (ringOf ids v s) ≡ l
 unfolding ringOf
 length-ring ids v s = length-sorted (places ids v s) ∙ length-places ids v s
 
--- ---- the ring m long at the front of the slice takes one place more
-grow : (ring ring₀ t : List ℕ) (m p : ℕ) → length (sorted t) ≡ m → ring ≡ sorted t ++ drop m ring₀
-    → carry p (take m ring) ++ drop (m + 1) ring ≡ sorted (p ∷ t) ++ drop (m + 1) ring₀
-grow ring ring₀ t m p h e =
-    ap₂ _++_
-    (ap (carry p) (ap (take m) e ∙ take-at (sorted t) (drop m ring₀) m h) ∙ carry-sorted p t)
-    (sym (drop-drop 1 m ring) ∙ ap (drop 1) (ap (drop m) e ∙ drop-at (sorted t) (drop m ring₀) m h) ∙ drop-drop 1 m ring₀)
-
--- a node's places, one vnode after the other
-module _ (node s n : ℕ) (ring₀ l : List ℕ) (h : n ≤ length ring₀) (e : take n ring₀ ≡ sorted l) where
-  pub node-none : ring₀ ≡ sorted (nodePlaces node 0 s ++ l) ++ drop (n + 0) ring₀
+-- ---- a node's places, the last vnode first
+module _ (node s : ℕ) where
+  pub node-next : (out : List ℕ) (i v p : ℕ) → 0 < v → i < length out → p ≡ placeOf node (v - 1) s
+      → take (i + 1) (set out i p) ++ nodePlaces node (v - 1) s ≡ take i out ++ nodePlaces node v s
   unfolding nodePlaces
-  node-none =
-      let z : n ≡ n + 0 = omega arith in
-      sym (take-append-drop n ring₀) ∙ ap₂ _++_ e (ap (λ (k : ℕ). drop k ring₀) z)
+  node-next out i v p h k q =
+      let z : v ≡ suc (v - 1) = omega arith in
+      next-written out (nodePlaces node (v - 1) s) i p k
+      ∙ rw q (ap (λ (m : ℕ). take i out ++ nodePlaces node m s) (sym z))
 
-  pub node-more : (ring : List ℕ) (v p : ℕ) → p ≡ placeOf node v s
-      → ring ≡ sorted (nodePlaces node v s ++ l) ++ drop (n + v) ring₀
-      → carry p (take (n + v) ring) ++ drop (n + v + 1) ring
-      ≡ sorted (nodePlaces node (v + 1) s ++ l) ++ drop (n + (v + 1)) ring₀
+  pub node-done : (out t : List ℕ) (i v : ℕ) → v ≡ 0 → length out ≤ i → take i out ++ nodePlaces node v s ≡ t → out ≡ t
   unfolding nodePlaces
-  node-more ring v p q f =
-      let z : n + v + 1 ≡ n + (v + 1) = omega arith in
-      grow ring ring₀ (nodePlaces node v s ++ l) (n + v) p size f
-      ∙ rw (z, add-one v, q)
-    where
-      size : length (sorted (nodePlaces node v s ++ l)) ≡ n + v
-      size =
-          omega (
-            arith,
-            length-sorted (nodePlaces node v s ++ l),
-            length-append (nodePlaces node v s) l,
-            length-nodePlaces node v s,
-            length-sorted l,
-            ap length e,
-            length-take-le n ring₀ h,
-          )
+  node-done out t i v z h e = all-written out t i h (rw z at e)
 
--- ---- all ids, from the last to the first
-step-back : (l : List ℕ) (i : ℕ) → 0 < i → i ≤ length l → drop (i - 1) l ≡ getD l (i - 1) 0 ∷ drop i l
-step-back l i h k =
-    let z : suc (i - 1) ≡ i = omega arith in
-    drop-cons l (i - 1) 0 (omega arith) ∙ ap (λ (j : ℕ). getD l (i - 1) 0 ∷ drop j l) z
+-- ---- those of all ids, id after id
+module _ (v s : ℕ) (ids : List ℕ) (i : ℕ) where
+  module _ (h : i < length ids) where
+    places-next : places (drop i ids) v s ≡ nodePlaces (getD ids i 0) v s ++ places (drop (i + 1) ids) v s
+    unfolding places
+    places-next = rw (drop-cons ids i 0 h, add-one i)
 
-module _ (v s : ℕ) where
-  pub places-rest : (ids : List ℕ) (i : ℕ) → length (places (drop i ids) v s) ≤ length (places ids v s)
+    pub length-next : length (places (drop i ids) v s) ≡ v + length (places (drop (i + 1) ids) v s)
+    length-next =
+        ap length places-next ∙ length-append (nodePlaces (getD ids i 0) v s) (places (drop (i + 1) ids) v s)
+        ∙ ap (λ (n : ℕ). n + length (places (drop (i + 1) ids) v s)) (length-nodePlaces (getD ids i 0) v s)
+
+    pub places-more : (out ys : List ℕ) (at w : ℕ) → at + v ≤ length out → ys ≡ nodePlaces (getD ids i 0) v s
+        → take (at + v) (putMid at w out ys) ++ places (drop (i + 1) ids) v s ≡ take at out ++ places (drop i ids) v s
+    places-more out ys at w k e =
+        let rest : List ℕ = places (drop (i + 1) ids) v s in
+        let z : length (take at out ++ ys) ≡ at + v =
+        length-append (take at out) ys ∙ omega (arith, length-take-le at out (omega arith), ap length e, length-nodePlaces (getD ids i 0) v s) in
+        ap (λ (t : List ℕ). take (at + v) t ++ rest) (sym (append-assoc (take at out) ys (drop w (drop at out))))
+        ∙ ap (λ (t : List ℕ). t ++ rest) (take-at (take at out ++ ys) (drop w (drop at out)) (at + v) z)
+        ∙ append-assoc (take at out) ys rest
+        ∙ ap (λ (t : List ℕ). take at out ++ t) (ap (λ (t : List ℕ). t ++ rest) e ∙ sym places-next)
+
+  pub places-done : (out t : List ℕ) (at : ℕ) → length ids ≤ i → at + length (places (drop i ids) v s) ≡ length out
+      → take at out ++ places (drop i ids) v s ≡ t → out ≡ t
   unfolding places
-  places-rest [] zero = omega arith
-  places-rest [] (suc i) = omega arith
-  places-rest (n ∷ ids) zero = omega arith
-  places-rest (n ∷ ids) (suc i) = omega (arith, places-rest ids i, length-append (nodePlaces n v s) (places ids v s))
+  places-done out t at h k e =
+      let d : drop i ids ≡ [] = drop-of-length-le ids h in
+      let f : at + 0 ≡ length out = rw d at k in
+      all-written out t at (omega arith) (rw d at e)
 
-  module _ (ids : List ℕ) (i : ℕ) (h : 0 < i) (k : i ≤ length ids) where
-    pub places-back : length (places (drop (i - 1) ids) v s) ≡ length (places (drop i ids) v s) + v
-    unfolding places
-    places-back =
-        rw (step-back ids i h k)
-        (omega (arith, length-append (nodePlaces (getD ids (i - 1) 0) v s) (places (drop i ids) v s), length-nodePlaces (getD ids (i - 1) 0) v s))
-
-    pub fill-back : (ring ring₀ after : List ℕ) (n : ℕ) → n ≡ length (places (drop i ids) v s)
-        → ring ≡ sorted (places (drop i ids) v s) ++ drop n ring₀ → Inserted (getD ids (i - 1) 0) v s n ring after
-        → after ≡ sorted (places (drop (i - 1) ids) v s) ++ drop (n + v) ring₀
-    unfolding places
-    fill-back ring ring₀ after n q e w =
-        w .front (places (drop i ids) v s) (ap (take n) e ∙ take-at (sorted (places (drop i ids) v s)) (drop n ring₀) n size)
-        ∙ ap₂ _++_
-        (ap (λ (t : List ℕ). sorted (places t v s)) (sym (step-back ids i h k)))
-        (sym (drop-drop v n ring) ∙ ap (drop v) (ap (drop n) e ∙ drop-at (sorted (places (drop i ids) v s)) (drop n ring₀) n size)
-        ∙ drop-drop v n ring₀)
-      where
-        size : length (sorted (places (drop i ids) v s)) ≡ n
-        size = length-sorted (places (drop i ids) v s) ∙ sym q
-
-  pub fill-none : (ids ring₀ : List ℕ) → (0 ≡ length (places (drop (length ids) ids) v s)) × (ring₀ ≡ sorted (places (drop (length ids) ids) v s) ++ drop 0 ring₀)
-  unfolding places sorted
-  fill-none ids ring₀ = rw (drop-length ids) (refl, refl)
-
-  pub fill-done : (ids ring ring₀ : List ℕ) (n : ℕ) → n ≡ length (places ids v s) → ring ≡ sorted (places ids v s) ++ drop n ring₀
-      → ring ≡ ringOf ids v s ++ drop (length (ringOf ids v s)) ring₀
-  unfolding ringOf
-  fill-done ids ring ring₀ n q e =
-      e ∙ ap (λ (k : ℕ). sorted (places ids v s) ++ drop k ring₀) (q ∙ sym (length-sorted (places ids v s)))
+-- ---- sorted at the front of the slice; n is the width of the part that is lent
+pub fill-done : (ids : List ℕ) (v s n : ℕ) (ring ws ss : List ℕ) → n ≡ length ids * v → ws ≡ places ids v s
+    → ss ≡ sorted (midOf 0 n (putMid 0 n ring ws))
+    → putMid 0 n (putMid 0 n ring ws) ss ≡ ringOf ids v s ++ drop (length (ringOf ids v s)) ring
+unfolding ringOf
+fill-done ids v s n ring ws ss q w e =
+    let m : length ws ≡ n = ap length w ∙ length-places ids v s ∙ sym q in
+    let k : n ≡ length (ringOf ids v s) = q ∙ sym (length-ring ids v s) in
+    ap₂ _++_
+    (e ∙ ap sorted (take-at ws (drop n ring) n m ∙ w))
+    (drop-at ws (drop n ring) n m ∙ ap (λ (i : ℕ). drop i ring) k)
 
 -- ---- the answer, check by check
 -- arguments that pass the checks of 17
 pub arguments-fit : (ids : List ℕ) (v : ℕ) → badArguments ids v ≡ false → (length ids ≤ 10) × (v ≤ 64) × (distinct ids ≡ true)
 unfolding badArguments
 arguments-fit ids v h =
-    let a = neither (ltb 10 (length ids) || ltb v 1 || ltb 64 v) (not (distinct ids)) h in
-    let b = neither (ltb 10 (length ids) || ltb v 1) (ltb 64 v) (a .0) in
-    let d = neither (ltb 10 (length ids)) (ltb v 1) (b .0) in
+    let a = or-false (ltb 10 (length ids) || ltb v 1 || ltb 64 v) (not (distinct ids)) h in
+    let b = or-false (ltb 10 (length ids) || ltb v 1) (ltb 64 v) (a .0) in
+    let d = or-false (ltb 10 (length ids)) (ltb v 1) (b .0) in
     (ltb-false 10 (length ids) (d .0), ltb-false 64 v (b .1), not-false (distinct ids) (a .1))
 
 pub fit-640 : (ids : List ℕ) (v : ℕ) → badArguments ids v ≡ false → length ids * v ≤ 640

@@ -5,8 +5,8 @@ use mathlib.Core.List.{List, [], _∷_}
 use Prim.Native.Nat.{ℕ}
 use lib.Dec.{eqb}
 use borrow.Author.Tests.{eqb-true}
+use Rattle.wire.proofs.Tests.{cases}
 use Rattle.ring.specs.Lists.{filter, without, firsts}
-use Rattle.ring.proofs.Cases.{cases}
 
 pub filter-ext : (f g : ℕ → Bool) → ((n : ℕ) → f n ≡ g n) → (l : List ℕ) → filter f l ≡ filter g l
 unfolding filter

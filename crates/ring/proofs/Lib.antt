@@ -1,9 +1,9 @@
-pub mod Cases
 pub mod Answers
 pub mod Filter
 pub mod Elements
 pub mod Counting
 pub mod Sorting
+pub mod Merging
 pub mod Scan
 pub mod Filling
 pub mod BuiltRing

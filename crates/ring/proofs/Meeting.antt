@@ -9,11 +9,11 @@ use lib.Dec.{leb, eqb}
 use lib.ListN.{length, getD, set, take, drop, length-append, length-drop, length-map, drop-of-length-le, List·getD-append, List·getD-map}
 use lib.Seq.{length-take-le, getD-drop, getD-take, getD-append-add, take-suc-set, drop-cons, take-suc, set-at, append-snoc, getD-set-other}
 use borrow.Author.Tests.{eqb-true, eqb-false}
+use Rattle.wire.proofs.Tests.{cases}
 use Rattle.ring.specs.Lists.{filter, without, firsts}
 use Rattle.ring.specs.Place.{token, node}
 use Rattle.ring.specs.Walk.{before, from, around}
 use Rattle.ring.specs.Helpers.{turned, flagged}
-use Rattle.ring.proofs.Cases.{cases}
 use Rattle.ring.proofs.Filter.{filter-ext, filter-and, firsts-filter}
 
 -- ---- the ring from the place at k on and round

@@ -9,12 +9,11 @@ use lib.Dec.{eqb, lit<}
 use lib.ListN.{length, getD, take, drop, take-append-drop}
 use lib.Seq.{length-take-le, getD-take}
 use borrow.Author.Tests.{eqb-true, eqb-false, eq-eqb, ne-eqb, not-true}
-use Rattle.wire.proofs.Tests.{clash, and-true}
+use Rattle.wire.proofs.Tests.{clash, and-true, cases, or-false}
 use Rattle.ring.specs.Lists.{elem, distinct, filter, firsts, firstAt}
 use Rattle.ring.specs.Place.{node}
 use Rattle.ring.specs.Walk.{before, from, around, nodesAround, met, ownersOf, admittedWithPlace}
 use Rattle.ring.specs.Meaning.{OwnerList}
-use Rattle.ring.proofs.Cases.{cases, neither}
 use Rattle.ring.proofs.Filter.{firsts-filter}
 use Rattle.ring.proofs.Elements.{not-in-nil, elem-append, elem-filter, elem-firsts, elem-at, elem-take, elem-drop, elem-rest, distinct-firsts, distinct-take}
 use Rattle.ring.proofs.Counting.{countBelow-ext, length-distinct}
@@ -81,7 +80,7 @@ order-cons : (n : ℕ) (w l : List ℕ) → elem n l ≡ false → InOrder w l �
 unfolding InOrder firstAt elem
 order-cons n w [] h o = tt
 order-cons n w (k ∷ l) h o =
-    let u = neither (eqb k n) (elem n l) h in (
+    let u = or-false (eqb k n) (elem n l) h in (
       λ m i. rw (ne-eqb n k (λ z. eqb-false k n (u .0) (sym z)), other m i (u .1)) (omega (arith, o .0 m i)),
       order-cons n w l (u .1) (o .1),
     )

@@ -9,12 +9,12 @@ use lib.ListN.{length}
 use lib.Seq.{take-at}
 use borrow.Author.Tests.{le-ltb, ltb-true, ltb-false}
 use Rattle.peers.specs.Admitted.{admits}
+use Rattle.wire.proofs.Tests.{cases}
 use Rattle.ring.specs.Answer.{refuses}
 use Rattle.ring.specs.Sound.{soundRing}
 use Rattle.ring.specs.Walk.{ownersOf, admittedWithPlace}
 use Rattle.ring.specs.Owners.{badRequest, ownersAnswer, ownersOutput}
 use Rattle.ring.specs.Meaning.{MeetsAdmitted, FindsOwners, TooFewExactly}
-use Rattle.ring.proofs.Cases.{cases}
 use Rattle.ring.proofs.Answers.{given, not-given, refused}
 use Rattle.ring.proofs.NodesMet.{elem-met, distinct-met, length-met, owner-list}
 use Rattle.ring.proofs.Choosing.{too-few, no-room, all-found}

@@ -6,15 +6,11 @@ use Prim.Native.Nat.{ℕ, zero, suc, _+_, _/_, _%_, _^_, _≤_, _<_, _-_}
 use native.Mathlib.Numerals.{add-one}
 use native.Mathlib.Omega.{arith}
 use borrow.Author.Tests.{lt-ltb, le-ltb, le-leb, lt-leb, eq-eqb, ne-eqb}
-use lib.ListN.{length, getD, take, drop, drop-of-length-le, length-drop}
-use lib.Seq.{drop-cons, take-all}
+use lib.ListN.{length, getD, drop, drop-of-length-le}
+use lib.Seq.{drop-cons}
 use Rattle.ring.specs.Lists.{ascending, elem, distinct}
 use Rattle.ring.specs.Sound.{inRange}
 use Rattle.ring.specs.Walk.{before}
-
--- a part up to the end, as a slice's contents are read
-pub rest : (l : List ℕ) (i : ℕ) → take (length l - i) (drop i l) ≡ drop i l
-rest l i = take-all (length l - i) (drop i l) (omega (arith, length-drop i l))
 
 module _ (l : List ℕ) (i : ℕ) where
   pub ascending-next : i + 1 < length l → getD l i 0 < getD l (i + 1) 0 → ascending (drop i l) ≡ ascending (drop (i + 1) l)

@@ -2,21 +2,17 @@
 use mathlib.Core.Bool.{Bool, false, cond}
 use mathlib.Core.Path.{_≡_}
 use mathlib.Core.List.{List, [], _∷_, _++_, map}
-use Prim.Native.Nat.{ℕ, _+_, _≤_}
-use lib.Dec.{ltb}
+use Prim.Native.Nat.{ℕ, _≤_}
+use lib.Dec.{leb}
 use lib.ListN.{length, getD, take, drop}
-use Rattle.ring.specs.Lists.{sorted, filter, firsts}
+use Rattle.ring.specs.Lists.{filter, firsts}
 use Rattle.ring.specs.Place.{node}
-use Rattle.ring.specs.Build.{nodePlaces}
 
--- p put into a list: the smaller of two goes down, the larger is carried on
-unfoldable pub carry : ℕ → List ℕ → List ℕ
-carry p [] = p ∷ []
-carry p (q ∷ l) = cond (ltb p q) (p ∷ carry q l) (q ∷ carry p l)
-
--- a node's v places put into a ring of k places at the front of a slice
-pub record Inserted (node v s k : ℕ) (slice after : List ℕ) : Type 0 where
-  pub front : (l : List ℕ) → take k slice ≡ sorted l → after ≡ sorted (nodePlaces node v s ++ l) ++ drop (k + v) slice
+-- two lists merged: the lesser of the two first elements goes first
+unfoldable pub merged : List ℕ → List ℕ → List ℕ
+merged [] r = r
+merged (p ∷ l) [] = p ∷ l
+merged (p ∷ l) (q ∷ r) = cond (leb p q) (p ∷ merged l (q ∷ r)) (q ∷ merged (p ∷ l) r)
 
 -- the ring from the place at k on and round
 unfoldable pub turned : ℕ → List ℕ → List ℕ

@@ -1,6 +1,7 @@
 // The hash ring: tokens, key positions, ring building, soundness, and the owner walk.
 mod building;
 mod checking;
+mod merge_sort;
 mod walking;
 
 use building::bad_arguments;

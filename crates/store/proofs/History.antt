@@ -26,7 +26,7 @@ use Rattle.store.specs.Merge.{mergeAnswer, afterMerge}
 use Rattle.store.specs.Unchecked.{isHeld}
 use Rattle.store.specs.Kept.{Representable}
 use Rattle.store.specs.Book.{Call, offer, merge, hasKey, keyCount, beatsAll, Greatest, bookOffer, bookOffered, bookMerge, bookMerged, Book, delivered, bookAnswer, bookAfter, runBook, bookAnswers, offers, InRange}
-use Rattle.store.specs.History.{World, store, answer, after, run, answers, fresh, noneDelivered, setAfter, DeliveryHistory, EveryDeliveryHistory}
+use Rattle.store.specs.History.{Stores, store, answer, after, run, answers, fresh, noneDelivered, setAfter, DeliveryHistory, EveryDeliveryHistory}
 use Rattle.store.proofs.HeldLaws.{beats-stamp, none-of}
 use Rattle.store.proofs.Members.{accept-all, fit-all, ascend}
 use Rattle.store.proofs.Best.{held, best, beatsBest, AllConsistent, Within, held-ascending, find-held, held-append, hasKey-best, keyCount-held, beatsAll-best, greatest-best, held-greatest, held-mem, held-same, held-key, held-grows}
@@ -132,12 +132,12 @@ module _ (C n : ℕ) (lo : 1 ≤ C) (hi : C ≤ 100) (all : List Entry)
     ])
 
   -- and so for each store
-  pub record Agrees (b : Book) (w : World) : Type 0 where
+  pub record Agrees (b : Book) (w : Stores) : Type 0 where
     pub sets : length b ≡ n
     pub stores : length w ≡ n
     pub each : (i : ℕ) → i < n → StoreAgrees (delivered b i) (store w i)
 
-  set-agrees : {b : Book} {w : World} (r : ℕ) {ds : List Entry} {bytes : List ℕ} → r < n → Agrees b w → StoreAgrees ds bytes
+  set-agrees : {b : Book} {w : Stores} (r : ℕ) {ds : List Entry} {bytes : List ℕ} → r < n → Agrees b w → StoreAgrees ds bytes
       → Agrees (set b r ds) (set w r bytes)
   set-agrees {b} {w} r {ds} {bytes} h a s = record {
     sets = length-set b r ds ∙ a .sets;
@@ -148,23 +148,23 @@ module _ (C n : ℕ) (lo : 1 ≤ C) (hi : C ≤ 100) (all : List Entry)
     ];
   }
 
-  pub call-answer : {b : Book} {w : World} (c : Call) (cs : List Call) → InRange n (c ∷ cs) → Agrees b w → answer w c ≡ bookAnswer C b c
+  pub call-answer : {b : Book} {w : Stores} (c : Call) (cs : List Call) → InRange n (c ∷ cs) → Agrees b w → answer w c ≡ bookAnswer C b c
   unfolding answer bookAnswer
   call-answer (offer i e) cs r a = offer-answer (a .each i (r .0)) e
   call-answer (merge i j) cs r a = merge-answer (a .each i (r .0)) (a .each j (r .1))
 
-  pub call-after : {b : Book} {w : World} (c : Call) (cs : List Call) → InRange n (c ∷ cs) → Within (offers (c ∷ cs)) all → Agrees b w
+  pub call-after : {b : Book} {w : Stores} (c : Call) (cs : List Call) → InRange n (c ∷ cs) → Within (offers (c ∷ cs)) all → Agrees b w
       → Agrees (bookAfter C b c) (after w c)
   unfolding after bookAfter offers
   call-after (offer i e) cs r k a = set-agrees i (r .0) a (offer-after (a .each i (r .0)) e (k e (head refl)))
   call-after (merge i j) cs r k a = set-agrees i (r .0) a (merge-after (a .each i (r .0)) (a .each j (r .1)))
 
-  pub run-agrees : {b : Book} {w : World} (cs : List Call) → InRange n cs → Within (offers cs) all → Agrees b w → Agrees (runBook C b cs) (run w cs)
+  pub run-agrees : {b : Book} {w : Stores} (cs : List Call) → InRange n cs → Within (offers cs) all → Agrees b w → Agrees (runBook C b cs) (run w cs)
   unfolding run runBook
   run-agrees [] r k a = a
   run-agrees (c ∷ cs) r k a = run-agrees cs (range-tail n c cs r) (offers-tail c cs k) (call-after c cs r k a)
 
-  pub run-answers : {b : Book} {w : World} (cs : List Call) → InRange n cs → Within (offers cs) all → Agrees b w → answers w cs ≡ bookAnswers C b cs
+  pub run-answers : {b : Book} {w : Stores} (cs : List Call) → InRange n cs → Within (offers cs) all → Agrees b w → answers w cs ≡ bookAnswers C b cs
   unfolding answers bookAnswers
   run-answers [] r k a = refl
   run-answers (c ∷ cs) r k a = ap₂ _∷_ (call-answer c cs r a) (run-answers cs (range-tail n c cs r) (offers-tail c cs k) (call-after c cs r k a))

@@ -10,7 +10,7 @@ use Rattle.entry.specs.Entry.{Entry, beats, refusalOf}
 use Rattle.store.specs.Held.{_∈_}
 use Rattle.store.specs.Answer.{Answer, stored, replaced, kept, merged, refused, isRefused}
 
--- a call names stores by their place
+-- a call names stores by their index
 pub data Call : Type 0 where
   offer : (store : ℕ) → Entry → Call
   merge : (receiver giver : ℕ) → Call

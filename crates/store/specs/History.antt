@@ -23,30 +23,30 @@ use Rattle.store.specs.Kept.{Representable}
 use Rattle.store.specs.Book.{Call, offer, merge, Book, delivered, hasKey, keyCount, Greatest, runBook, bookAnswers, offers, InRange}
 
 -- the bytes of each store
-abbrev pub World : Type 0
-World = List (List ℕ)
+abbrev pub Stores : Type 0
+Stores = List (List ℕ)
 
-abbrev pub store : World → ℕ → List ℕ
+abbrev pub store : Stores → ℕ → List ℕ
 store w i = getD w i []
 
-unfoldable pub answer : World → Call → Answer
+unfoldable pub answer : Stores → Call → Answer
 answer w (offer i e) = offerAnswer (store w i) e
 answer w (merge r g) = mergeAnswer (store w r) (store w g)
 
-unfoldable pub after : World → Call → World
+unfoldable pub after : Stores → Call → Stores
 after w (offer i e) = set w i (afterOffer (store w i) e)
 after w (merge r g) = set w r (afterMerge (store w r) (store w g))
 
-unfoldable pub run : World → List Call → World
+unfoldable pub run : Stores → List Call → Stores
 run w [] = w
 run w (c ∷ cs) = run (after w c) cs
 
-unfoldable pub answers : World → List Call → List Answer
+unfoldable pub answers : Stores → List Call → List Answer
 answers w [] = []
 answers w (c ∷ cs) = answer w c ∷ answers (after w c) cs
 
 -- n fresh stores of C slots, to which nothing was delivered
-unfoldable pub fresh : ℕ → ℕ → World
+unfoldable pub fresh : ℕ → ℕ → Stores
 fresh C n = replicate n (freshStore C)
 
 unfoldable pub noneDelivered : ℕ → Book
@@ -96,7 +96,7 @@ RepresentableOffers calls = (e : Entry) → e ∈ offers calls → Representable
 abbrev pub ConsistentOffers : List Call → Type 0
 ConsistentOffers calls = (d e : Entry) → d ∈ offers calls → e ∈ offers calls → Acceptable d → Acceptable e → Consistent d e
 
--- demand 3: for every slot count, every number of stores and every list of calls
+-- demand 3, the delivery history: for every slot count, every number of stores and every list of calls
 abbrev pub EveryDeliveryHistory : Type 0
 EveryDeliveryHistory = (C n : ℕ) (calls : List Call) → 1 ≤ C → C ≤ 100 → InRange n calls
     → RepresentableOffers calls → ConsistentOffers calls → DeliveryHistory C n calls

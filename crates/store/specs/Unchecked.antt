@@ -35,7 +35,7 @@ unfoldable pub isHeld : Option Entry → Bool
 isHeld none = false
 isHeld (some h) = true
 
--- a key's place, and whether it is held
+-- a key's index, and whether it is held
 pub record Placed (k : List ℕ) (es : List Entry) (at : ℕ) (held : Bool) : Type 0 where
   pub place : at ≡ seek k es
   pub known : held ≡ isHeld (seen k es)

@@ -7,7 +7,7 @@ use native.Mathlib.Omega.{arith}
 use native.Mathlib.Nat.{lt-of-lt-of-le, pow-le-pow-right}
 use lib.Dec.{lit<, ltb}
 use borrow.Author.Tests.{ltb-true, ltb-false}
-use lib.ListN.{length, take, drop, getD, length-take, List·getD-eq-default}
+use lib.ListN.{length, take, drop, getD, length-take, length-drop, List·getD-eq-default}
 use lib.Seq.{take-all, take-nil, take-add, take-take, drop-drop, drop-cons, getD-take, getD-drop}
 use Rattle.wire.specs.Number.{be, num, numFrom, Bytes}
 use Rattle.wire.specs.Fill.{field}
@@ -42,6 +42,10 @@ field-all n s h = take-all n s h
 pub field-between : (at w e : ℕ) (s : List ℕ) → e ≡ at + w → take (e - at) (drop at s) ≡ field at w s
 unfolding field
 field-between at w e s h = let k : e - at ≡ w = omega arith in ap (λ (n : ℕ). take n (drop at s)) k
+
+-- what the code's `&s[i..]` holds
+pub rest : (i : ℕ) (s : List ℕ) → take (length s - i) (drop i s) ≡ drop i s
+rest i s = take-all (length s - i) (drop i s) (omega (arith, length-drop i s))
 
 -- ---- the number in a field
 length-field-le : (at w : ℕ) (s : List ℕ) → length (field at w s) ≤ w

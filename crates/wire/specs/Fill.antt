@@ -10,6 +10,6 @@ zeros n = replicate n 0
 unfoldable pub padded : ℕ → List ℕ → List ℕ
 padded w s = take w s ++ zeros (w - length s)
 
--- the w bytes at a place
+-- the w bytes at an offset
 unfoldable pub field : ℕ → ℕ → List ℕ → List ℕ
 field at w s = take w (drop at s)

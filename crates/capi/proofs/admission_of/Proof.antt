@@ -1,4 +1,3 @@
-use borrow.Author.Needs.{needs}
 use borrow.Author.Tests.{eq-eqb, ne-eqb}
 use Rattle.capi.proofs.admission_of.Statement.{statement}
 use Rattle.capi.proofs.admission_of.Tie as tie

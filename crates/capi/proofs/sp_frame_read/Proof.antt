@@ -8,7 +8,7 @@ use Rattle.frame.specs.Reading.{readFrame}
 use Rattle.capi.specs.Result.{packed}
 use Rattle.capi.specs.Frame.{readRefusal, readWords, refusalOfRead}
 use Rattle.capi.proofs.Fronts.{not-none, none, front-refused-by, front-no-room, front-put}
-use Rattle.capi.proofs.Frames.{same-refusal, key-short, same-words, ten-in}
+use Rattle.capi.proofs.Frames.{same-refusal, same-words, ten-in}
 use Rattle.capi.proofs.sp_frame_read.Statement.{statement}
 use Rattle.capi.proofs.sp_frame_read.Tie as tie
 
@@ -37,7 +37,7 @@ returns-2 c =
     (p .told, p .left)
 
 field-words-requires : tie.Need-field-words-requires
-field-words-requires c κs = key-short (c .before .before .before .before .before .before .args .frame .now) (λ i. c .before .before .before .before .before .shared-slice-known .given i .fits) (c .before .before .before .read .result) (c .before .before .before .read .ensures)
+field-words-requires c κs = search needs
 
 slice-aggregate-put-front : tie.Need-slice-aggregate-put-front
 slice-aggregate-put-front c = search needs

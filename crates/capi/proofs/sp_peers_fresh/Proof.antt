@@ -1,6 +1,6 @@
 use borrow.Author.Needs.{needs}
 use native.Mathlib.Omega.{arith}
-use mathlib.Core.Path.{_≡_, sym, ap, _∙_}
+use mathlib.Core.Path.{sym, ap, _∙_}
 use Rattle.peers.specs.Event.{answerNumber, freshAnswer, afterFresh}
 use Rattle.capi.specs.Words.{tableWords}
 use Rattle.capi.proofs.Fronts.{front-no-room}

@@ -1,6 +1,6 @@
 use borrow.Author.Needs.{needs}
 use mathlib.Core.Path.{ap, _∙_}
-use Rattle.capi.specs.Ring.{givenIn, answerWord}
+use Rattle.capi.specs.Ring.{answerWord}
 use Rattle.capi.proofs.Rings.{built-small}
 use Rattle.capi.proofs.sp_ring_build.Statement.{statement}
 use Rattle.capi.proofs.sp_ring_build.Tie as tie

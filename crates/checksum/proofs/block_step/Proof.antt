@@ -1,6 +1,6 @@
 use borrow.Author.Needs.{needs}
 use Rattle.checksum.specs.Table.{blockWith}
-use Rattle.checksum.proofs.Words.{rest}
+use Rattle.wire.proofs.Fields.{rest}
 use Rattle.checksum.proofs.block_step.Statement.{statement}
 use Rattle.checksum.proofs.block_step.Tie as tie
 

@@ -3,7 +3,7 @@ use mathlib.Core.Path.{_≡_, _∙_}
 use Prim.Native.Nat.{_≤_, _-_}
 use lib.ListN.{length, drop}
 use Rattle.checksum.specs.Table.{runWith}
-use Rattle.checksum.proofs.Words.{rest}
+use Rattle.wire.proofs.Fields.{rest}
 use Rattle.checksum.proofs.ByTable.{run-next-block, run-rest, part-with}
 use Rattle.checksum.proofs.crc32c_part.Statement.{statement}
 use Rattle.checksum.proofs.crc32c_part.Tie as tie

@@ -1,5 +1,6 @@
 use borrow.Author.Needs.{needs}
-use Rattle.checksum.proofs.Words.{eight-bytes, rest}
+use Rattle.wire.proofs.Fields.{rest}
+use Rattle.checksum.proofs.Words.{eight-bytes}
 use Rattle.checksum.proofs.word.Statement.{statement}
 use Rattle.checksum.proofs.word.Tie as tie
 

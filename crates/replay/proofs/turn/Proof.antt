@@ -1,8 +1,9 @@
 use borrow.Author.Needs.{needs}
 use native.Mathlib.Omega.{arith}
-use mathlib.Core.Path.{sym, _∙_}
+use mathlib.Core.Path.{sym, ap, _∙_}
 use Prim.Native.Nat.{_-_}
 use lib.ListN.{drop, length-take}
+use Rattle.journal.specs.Journal.{meaning}
 use Rattle.journal.proofs.Cutting.{cut-within}
 use Rattle.replay.proofs.turn.Statement.{statement}
 use Rattle.replay.proofs.turn.Tie as tie
@@ -23,7 +24,7 @@ enum-known-cut : tie.Need-enum-known-cut
 enum-known-cut c = search needs
 
 answer-requires : tie.Need-answer-requires
-answer-requires c κs = let a = c .before .before .before .before .before .before .before .before .before .before .before .before .before .before .args in let p = c .before .before .before .before .before .before .before .before .before .before .before .before .before .before .pre in let w = cut-within _ _ _ (sym (c .before .before .before .before .before .before .before .cut-record .ensures) ∙ c .before .before .before .before .before .cut .given .1) in (p .0, p .1, p .2, p .3, w .0, omega (arith, w .1, length-take (a .state .end - a .state .at) (drop (a .state .at) (a .input .now)), p .0 .order))
+answer-requires c κs = let a = c .before .before .before .before .before .before .before .before .before .before .before .before .before .before .args in let p = c .before .before .before .before .before .before .before .before .before .before .before .before .before .before .pre in let w = cut-within _ _ _ (sym (c .before .before .before .before .before .before .before .cut-record .ensures) ∙ ap meaning (c .before .before .before .before .before .cut .given .1)) in (p .0, p .1, p .2, p .3, w .0, omega (arith, w .1, length-take (a .state .end - a .state .at) (drop (a .state .at) (a .input .now)), p .0 .order))
 
 enum-told : tie.Need-enum-told
 enum-told c = search needs

@@ -26,7 +26,7 @@ returns-2 : tie.Need-returns-2
 returns-2 c = tells _ _ _ _ (refuses 4) (lacks-room _ _ _ (fit (c .before)) (c .if2 .taken))
 
 fill-requires : tie.Need-fill-requires
-fill-requires c κs = rw length-places (c .before .if2 .left)
+fill-requires c κs = (rw length-places (c .before .if2 .left), rw length-places (fit-640 _ _ (fit (c .before .before))))
 
 same-length : tie.Need-same-length
 same-length c = search needs

@@ -1,9 +1,7 @@
 use borrow.Author.Needs.{needs}
 use native.Mathlib.Omega.{arith}
-use mathlib.Core.Path.{refl, sym, ap, _∙_}
-use Prim.Native.Nat.{ℕ}
+use mathlib.Core.Path.{ap}
 use Rattle.node.specs.Answer.{replyNumber}
-use Rattle.capi.specs.Result.{packed}
 use Rattle.capi.proofs.result.replied.Statement.{statement}
 use Rattle.capi.proofs.result.replied.Tie as tie
 

@@ -1,11 +1,9 @@
 use borrow.Author.Needs.{needs}
 use native.Mathlib.Omega.{arith}
-use mathlib.Core.Path.{_≡_, refl, sym, ap, _∙_}
-use Prim.Native.Nat.{ℕ, _≤_, _-_}
+use mathlib.Core.Path.{_≡_, refl}
+use Prim.Native.Nat.{_≤_, _-_}
 use lib.ListN.{length, take, length-set}
-use lib.Seq.{take-all}
-use Rattle.peers.specs.declared.Row.{Row}
-use Rattle.capi.specs.Words.{rowsOf, tableOf}
+use Rattle.capi.specs.Words.{rowsOf}
 use Rattle.capi.proofs.Rows.{table-parts, fit-at, read-next, table-read}
 use Rattle.capi.proofs.words.table_of.Statement.{statement}
 use Rattle.capi.proofs.words.table_of.Tie as tie

@@ -13,7 +13,7 @@ enum-known-message c = search needs
 
 serve-repl-requires : tie.Need-serve-repl-requires
 unfolding apart
-serve-repl-requires c κs = (c .before .before .before .before .before .before .pre .0, record { kind = past-kind 0 (0 ∷ 2 ∷ 3 ∷ 4 ∷ 5 ∷ 6 ∷ 7 ∷ 8 ∷ []) (c .before .before .before .before .before .before .args .message) refl (c .before .before .match .keys2) (c .before .before .before .before .before .before .pre .1 .kind); within = c .before .before .before .before .before .before .pre .1 .within })
+serve-repl-requires c κs = (c .before .before .before .before .before .before .pre .0, record { kind = past-kind 1 (0 ∷ 2 ∷ 3 ∷ 4 ∷ 5 ∷ 6 ∷ 7 ∷ 8 ∷ []) (c .before .before .before .before .before .before .args .message) refl (c .before .before .match .keys2) (c .before .before .before .before .before .before .pre .1 .kind); within = c .before .before .before .before .before .before .pre .1 .within })
 
 same-length : tie.Need-same-length
 same-length c = search needs

@@ -1,19 +1,15 @@
 use borrow.Author.Needs.{needs}
 use native.Mathlib.Omega.{arith}
-use mathlib.Core.Path.{refl, ap, _∙_}
+use mathlib.Core.Path.{refl}
 use mathlib.Core.List.{[], _∷_}
 use Rattle.node.proofs.Variants.{apart, past-kind}
 use Rattle.node.proofs.Settling.{settled-as, settled-refused}
-use Rattle.node.specs.Handler.{refused}
 use Rattle.node.proofs.Serving.{part, deleted, no-request, del-within}
 use Rattle.node.proofs.request.serve_del.Statement.{statement}
 use Rattle.node.proofs.request.serve_del.Tie as tie
 
 enum-known-message : tie.Need-enum-known-message
 enum-known-message c = search needs
-
-refusal-of-requires : tie.Need-refusal-of-requires
-refusal-of-requires c κs = search needs
 
 refuse-requires : tie.Need-refuse-requires
 refuse-requires c κs = search needs
@@ -23,7 +19,7 @@ same-length c = search needs
 
 returns : tie.Need-returns
 unfolding apart
-returns c = settled-as _ _ _ _ _ _ _ _ (ap refused (c .before .before .before .before .refusal-of .ensures) ∙ no-request (c .before .before .before .before .before .before .before .before .before .args .store .now) (c .before .before .before .before .before .before .before .before .before .args .clock) (c .before .before .before .before .before .before .before .before .before .args .time) (c .before .before .before .before .before .before .before .before .before .args .frame .now) (c .before .before .before .before .before .before .before .before .before .args .message) (past-kind 3 (0 ∷ 1 ∷ 3 ∷ 4 ∷ 5 ∷ 6 ∷ 7 ∷ 8 ∷ []) (c .before .before .before .before .before .before .before .before .before .args .message) refl (c .before .before .before .before .before .match .keys2) (c .before .before .before .before .before .before .before .before .before .pre .1 .kind))) (settled-refused _ _ _ _ _ _ _ refl (c .before .before .refuse .ensures))
+returns c = settled-as _ _ _ _ _ _ _ _ (no-request (c .before .before .before .before .before .before .before .before .args .store .now) (c .before .before .before .before .before .before .before .before .args .clock) (c .before .before .before .before .before .before .before .before .args .time) (c .before .before .before .before .before .before .before .before .args .frame .now) (c .before .before .before .before .before .before .before .before .args .message) (past-kind 4 (0 ∷ 1 ∷ 3 ∷ 4 ∷ 5 ∷ 6 ∷ 7 ∷ 8 ∷ []) (c .before .before .before .before .before .before .before .before .args .message) refl (c .before .before .before .before .match .keys2) (c .before .before .before .before .before .before .before .before .pre .1 .kind))) (settled-refused _ _ _ _ _ _ _ refl (c .before .before .refuse .ensures))
 
 add-end : tie.Need-add-end
 add-end c = omega (arith, del-within (c .before .before .before .before .before .before .args .frame .now) (c .before .before .before .before .before .before .args .message) (c .before .before .before .before .before .before .pre .1 .within) _ _ (c .before .message .given .1))
@@ -57,7 +53,6 @@ serve-del-spec =
     tie.close
     (tie.spec
     enum-known-message
-    refusal-of-requires
     refuse-requires
     same-length
     returns

@@ -13,7 +13,7 @@ enum-known-message c = search needs
 
 serve-del-requires : tie.Need-serve-del-requires
 unfolding apart
-serve-del-requires c κs = (c .before .before .before .before .before .before .pre .0, record { kind = past-kind 2 (1 ∷ 2 ∷ 3 ∷ 4 ∷ 5 ∷ 6 ∷ 7 ∷ 8 ∷ []) (c .before .before .before .before .before .before .args .message) refl (c .before .before .match .keys2) (c .before .before .before .before .before .before .pre .1 .kind); within = c .before .before .before .before .before .before .pre .1 .within })
+serve-del-requires c κs = (c .before .before .before .before .before .before .pre .0, record { kind = past-kind 3 (1 ∷ 2 ∷ 3 ∷ 4 ∷ 5 ∷ 6 ∷ 7 ∷ 8 ∷ []) (c .before .before .before .before .before .before .args .message) refl (c .before .before .match .keys2) (c .before .before .before .before .before .before .pre .1 .kind); within = c .before .before .before .before .before .before .pre .1 .within })
 
 same-length : tie.Need-same-length
 same-length c = search needs

@@ -13,7 +13,7 @@ enum-known-message c = search needs
 
 serve-put-requires : tie.Need-serve-put-requires
 unfolding apart
-serve-put-requires c κs = (c .before .before .before .before .before .before .pre .0, record { kind = past-kind 1 (0 ∷ 1 ∷ 2 ∷ 4 ∷ 5 ∷ 6 ∷ 7 ∷ 8 ∷ []) (c .before .before .before .before .before .before .args .message) refl (c .before .before .match .keys2) (c .before .before .before .before .before .before .pre .1 .kind); within = c .before .before .before .before .before .before .pre .1 .within })
+serve-put-requires c κs = (c .before .before .before .before .before .before .pre .0, record { kind = past-kind 2 (0 ∷ 1 ∷ 2 ∷ 4 ∷ 5 ∷ 6 ∷ 7 ∷ 8 ∷ []) (c .before .before .before .before .before .before .args .message) refl (c .before .before .match .keys2) (c .before .before .before .before .before .before .pre .1 .kind); within = c .before .before .before .before .before .before .pre .1 .within })
 
 same-length : tie.Need-same-length
 same-length c = search needs
