@@ -2,7 +2,7 @@
 CARGO = cargo
 TOOLS = reference/target/release
 SAMPLE = target/sample
-.PHONY: run test proved reference tools expected tails library differential fuzz bench fmt
+.PHONY: run test proved reference tools expected tails library differential compared fuzz bench fmt
 
 run: target/bin/replay
 	@$(TOOLS)/journal $(SAMPLE)/journal $(SAMPLE)/expected
@@ -11,8 +11,9 @@ run: target/bin/replay
 	@$(TOOLS)/view $(SAMPLE)/journal $(SAMPLE)/replies
 
 test:
-	@$(MAKE) --no-print-directory -j2 reference proved
-	@$(MAKE) --no-print-directory expected tails differential
+	@$(MAKE) --no-print-directory proved
+	@$(MAKE) --no-print-directory -j2 reference library
+	@$(MAKE) --no-print-directory expected tails compared
 	@rt fmt --check
 	@rt ci
 
@@ -24,10 +25,10 @@ tools:
 	@mkdir -p target
 	@cd reference && $(CARGO) build --release --offline --quiet
 
-# What the tests before the gate need proved: the replay program and the library.
+# The replay program, and what the library for C and Rust is made of.
 proved:
 	@mkdir -p $(SAMPLE)
-	@rt check replay capi >$(SAMPLE)/proved.log 2>&1 || { cat $(SAMPLE)/proved.log; exit 1; }
+	@rt check replay ring >$(SAMPLE)/proved.log 2>&1 || { cat $(SAMPLE)/proved.log; exit 1; }
 
 # The proved replay program.
 .PHONY: target/bin/replay
@@ -46,12 +47,15 @@ tails: target/bin/replay
 	@echo "replay of $(TAILS): as expected"
 
 # The proved library for C and Rust, target/staticlib/libcapi.a.
-library: tools
+library:
 	@mkdir -p $(SAMPLE)
 	@rt staticlib capi >$(SAMPLE)/library.log 2>&1 || { cat $(SAMPLE)/library.log; exit 1; }
 
 # The C example, the wrapper, and every family of calls against the second program, with fixed seeds.
 differential: library
+	@$(MAKE) --no-print-directory compared
+
+compared:
 	cd reference && $(CARGO) test --release --offline --quiet -p snowpulley-capi -p snowpulley-differential
 
 # The same for as long as one likes: make fuzz SECONDS=600 SEED=7
