@@ -147,15 +147,7 @@ pub fn table_of(words: &[u64]) -> PeerTable
     requires { ⌜ isTable (now words) ≡ true ⌝ }
     ensures { λ r. ⌜ r ≡ tableOf (now (words .entry)) ⌝ }
 {
-    let none = Row {
-        id: 0,
-        address: 0,
-        port: 0,
-        state: 0,
-        incarnation: 0,
-        last_seen: 0,
-    };
-    let mut rows = [none; 10];
+    let mut rows = [Row::NONE; 10];
     let mut k: usize = 0;
     while k < 10 {
         let row = row_of(words, k);

@@ -8,6 +8,9 @@ ghost use Rattle.checksum.specs.Crc32c.{bitStep, byteStep, run, crc32c a
 ghost use Rattle.checksum.specs.Table.{crcTable, entryOf, byteStepWith, bytesWith, littleEndian, lanesWith, blockWith, PartWith, ChecksumWith};
 ghost use Rattle.checksum.specs.Fmix32.{fmix32 as fmixOf, times};
 
+// Sixteen rows of 256 entries, one after another.
+pub type Table = [u32; 4096];
+
 // CRC32C of `bytes`. The table is made anew by each call that needs it: where many checksums are
 // wanted, make it once and lend it to `crc32c_with`.
 pub fn crc32c(bytes: &[u8]) -> u32
@@ -22,14 +25,14 @@ pub fn crc32c(bytes: &[u8]) -> u32
 
 // The table of CRC32C as a value. A constant is written out on the stack by each function that
 // names it, so it is made once and lent to what reads it.
-pub fn table() -> [u32; 4096]
+pub fn table() -> Table
     ensures { λ r. ⌜ r ≡ crcTable ⌝ }
 {
     entries::TABLE
 }
 
 // The checksum of `bytes` by `table`; with the table of CRC32C, CRC32C.
-pub fn crc32c_with(table: &[u32; 4096], bytes: &[u8]) -> u32
+pub fn crc32c_with(table: &Table, bytes: &[u8]) -> u32
     ensures { λ r. ⌜ ChecksumWith (now (table .entry)) (now (bytes .entry)) r ⌝ }
 {
     crc32c_part(table, 0xFFFF_FFFF, bytes) ^ 0xFFFF_FFFF
@@ -37,7 +40,7 @@ pub fn crc32c_with(table: &[u32; 4096], bytes: &[u8]) -> u32
 
 // The remainder after `bytes`, from the remainder `start` on: sixteen bytes a turn, then the rest.
 // Neither started nor finished with all ones, so that a checksum can go on over several parts.
-pub fn crc32c_part(table: &[u32; 4096], start: u32, bytes: &[u8]) -> u32
+pub fn crc32c_part(table: &Table, start: u32, bytes: &[u8]) -> u32
     ensures { λ r. ⌜ PartWith (now (table .entry)) start (now (bytes .entry)) r ⌝ }
 {
     let mut c = start;
@@ -66,7 +69,7 @@ fn mul_mod_2_32(a: u32, b: u32) -> u32
 }
 
 // Entry i of row `row`.
-fn entry(t: &[u32; 4096], row: usize, i: usize) -> u32
+fn entry(t: &Table, row: usize, i: usize) -> u32
     requires { ⌜ (row < 16) × (i < 256) ⌝ }
     ensures { λ r. ⌜ r ≡ entryOf (now (t .entry)) row i ⌝ }
 {
@@ -74,7 +77,7 @@ fn entry(t: &[u32; 4096], row: usize, i: usize) -> u32
 }
 
 // One byte more, by the first row.
-fn byte_step(t: &[u32; 4096], c: u32, b: u8) -> u32
+fn byte_step(t: &Table, c: u32, b: u8) -> u32
     ensures { λ r. ⌜ r ≡ byteStepWith (now (t .entry)) c b ⌝ }
 {
     let v = c ^ (b as u32);
@@ -82,7 +85,7 @@ fn byte_step(t: &[u32; 4096], c: u32, b: u8) -> u32
 }
 
 // All bytes of `s`, one after the other.
-fn byte_run(t: &[u32; 4096], start: u32, s: &[u8]) -> u32
+fn byte_run(t: &Table, start: u32, s: &[u8]) -> u32
     ensures { λ r. ⌜ r ≡ bytesWith (now (t .entry)) start (now (s .entry)) ⌝ }
 {
     let mut c = start;
@@ -117,7 +120,7 @@ fn word(s: &[u8]) -> u64
 }
 
 // What the lowest byte of `v` becomes by row `row`.
-fn lane(t: &[u32; 4096], row: usize, v: u64) -> u32
+fn lane(t: &Table, row: usize, v: u64) -> u32
     requires { ⌜ row < 16 ⌝ }
     ensures { λ r. ⌜ r ≡ entryOf (now (t .entry)) row (v % 256) ⌝ }
 {
@@ -125,7 +128,7 @@ fn lane(t: &[u32; 4096], row: usize, v: u64) -> u32
 }
 
 // A number of eight bytes, by eight rows of the table from `base` on, a row for each byte.
-fn lanes(t: &[u32; 4096], base: usize, v: u64) -> u32
+fn lanes(t: &Table, base: usize, v: u64) -> u32
     requires { ⌜ base ≤ 8 ⌝ }
     ensures { λ r. ⌜ r ≡ lanesWith (now (t .entry)) base 7 v ⌝ }
 {
@@ -147,7 +150,7 @@ fn lanes(t: &[u32; 4096], base: usize, v: u64) -> u32
 }
 
 // Sixteen bytes more.
-fn block_step(t: &[u32; 4096], c: u32, s: &[u8]) -> u32
+fn block_step(t: &Table, c: u32, s: &[u8]) -> u32
     requires { ⌜ 16 ≤ length (now s) ⌝ }
     ensures { λ r. ⌜ r ≡ blockWith (now (t .entry)) c (now (s .entry)) ⌝ }
 {

@@ -1,6 +1,7 @@
 // The store image: whether it is sound, and its slots read and written. Each public function is total.
 mod field;
 
+use checksum::Table;
 use checksum::crc32c;
 use checksum::crc32c_with;
 use checksum::table;
@@ -123,7 +124,7 @@ pub fn put_slot(slot: &mut [u8], key: &[u8], value: &[u8], flag: u8, stamp: Stam
 }
 
 // Whether the zero fill and the checksum of a slot are right, its lengths being within their fields.
-fn is_sealed(crcs: &[u32; 4096], slot: &[u8], klen: usize, vlen: usize) -> bool
+fn is_sealed(crcs: &Table, slot: &[u8], klen: usize, vlen: usize) -> bool
     requires { ⌜ (now crcs ≡ crcTable) × Lengths (now slot) klen vlen ⌝ }
     ensures { λ r. ⌜ r ≡ sealed (now (slot .entry)) ⌝ }
 {
@@ -140,7 +141,7 @@ fn is_sealed(crcs: &[u32; 4096], slot: &[u8], klen: usize, vlen: usize) -> bool
 }
 
 // Whether a slot is sound: its entry is acceptable, and its bytes are those of the entry's slot.
-fn is_sound_slot(crcs: &[u32; 4096], slot: &[u8]) -> bool
+fn is_sound_slot(crcs: &Table, slot: &[u8]) -> bool
     requires { ⌜ now crcs ≡ crcTable ⌝ }
     ensures { λ r. ⌜ r ≡ slotSound (now (slot .entry)) ⌝ }
 {
@@ -168,7 +169,7 @@ fn is_sound_slot(crcs: &[u32; 4096], slot: &[u8]) -> bool
 }
 
 // Whether each used slot is sound.
-fn slots_sound(crcs: &[u32; 4096], store: &[u8]) -> bool
+fn slots_sound(crcs: &Table, store: &[u8]) -> bool
     requires { ⌜ now crcs ≡ crcTable ⌝ }
     ensures { λ r. ⌜ r ≡ slotsSound (usedOf (now (store .entry))) (drop 16 (now (store .entry))) ⌝ }
 {

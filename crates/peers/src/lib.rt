@@ -57,6 +57,9 @@ pub enum Admission {
     Standing,
 }
 
+// A flag for each id.
+pub type Flags = [bool; 256];
+
 // The later of two times.
 fn later_of(a: u64, b: u64) -> u64
     ensures { λ r. ⌜ r ≡ max a b ⌝ }
@@ -72,6 +75,16 @@ fn age(seen: u64, now: u64) -> u64
 }
 
 impl Row {
+    // A row past the last.
+    pub const NONE: Row = Row {
+        id: 0,
+        address: 0,
+        port: 0,
+        state: 0,
+        incarnation: 0,
+        last_seen: 0,
+    };
+
     fn new(id: u8, address: u32, port: u16, incarnation: u32, now: u64) -> Row
         ensures { λ r. ⌜ r ≡ newRow id address port incarnation now ⌝ }
     {
@@ -255,15 +268,7 @@ impl PeerTable {
     pub fn fresh(id: u8, address: u32, port: u16, incarnation: u32, now: u64) -> Changed
         ensures { λ r. ⌜ Gives r (afterFresh id address port incarnation now) (freshAnswer now) ⌝ }
     {
-        let none = Row {
-            id: 0,
-            address: 0,
-            port: 0,
-            state: 0,
-            incarnation: 0,
-            last_seen: 0,
-        };
-        let mut rows = [none; 10];
+        let mut rows = [Row::NONE; 10];
         if TIME_LIMIT <= now {
             let empty = PeerTable { rows, count: 0 };
             return empty.refused(Refusal::BadTime);
@@ -392,7 +397,7 @@ impl PeerTable {
     }
 
     // For each id, whether it is admitted.
-    pub fn admitted(self, admission: Admission) -> [bool; 256]
+    pub fn admitted(self, admission: Admission) -> Flags
         ensures { λ r. ⌜ r ≡ admittedFlags admission self ⌝ }
     {
         let count = self.row_count();

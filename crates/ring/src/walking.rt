@@ -1,5 +1,6 @@
 // The owner walk over flags: where it starts, what it meets, and what it writes.
 use crate::MAX_OWNERS;
+use peers::Flags;
 use peers::PeerTable;
 ghost use mathlib.Core.Path.{_≡_};
 ghost use mathlib.Core.List.{_++_};
@@ -56,7 +57,7 @@ fn place_at(ring: &[u64], start: usize, j: usize) -> u64
 }
 
 // The first `r` flagged nodes from the place at `start` on and round, each the first time it is met: its flag is cleared then.
-pub fn walk(ring: &[u64], start: usize, flags: [bool; 256], r: usize) -> Taken
+pub fn walk(ring: &[u64], start: usize, flags: Flags, r: usize) -> Taken
     requires { ⌜ (start ≤ length (now ring)) × (r ≤ 3) ⌝ }
     ensures { λ t. ⌜ Walked flags start r (now (ring .entry)) (t .nodes) (t .count) ⌝ }
 {

@@ -1,6 +1,6 @@
 -- Demand 3: stores that are offered entries and merged into one another, and what holds after every list of such calls.
 -- The calls run here are those of the code: the contracts of `create`, `offer`, `merge`, `lookup` and `value` say that they answer and leave
--- `freshStore`, `offerAnswer`, `afterOffer`, `mergeAnswer`, `afterMerge`, `lookupAnswer` and `valuePart`, the very definitions that `answer`,
+-- `afterCreate` (`freshStore` where it is not refused), `offerAnswer`, `afterOffer`, `mergeAnswer`, `afterMerge`, `lookupAnswer` and `valuePart`, the very definitions that `answer`,
 -- `after` and the clauses below are made of.
 use Prim.Native.Nat.{ℕ, _<_, _≤_}
 use mathlib.Core.Path.{_≡_}
