@@ -2,7 +2,7 @@
 CARGO = cargo
 TOOLS = reference/target/release
 SAMPLE = target/sample
-.PHONY: run test proved reference tools expected tails library differential compared fuzz bench fmt
+.PHONY: run test proved reference tools expected tails library differential compared fuzz bench mutants wrong-answers fmt
 
 run: target/bin/replay
 	@$(TOOLS)/journal $(SAMPLE)/journal $(SAMPLE)/expected
@@ -68,6 +68,16 @@ fuzz: library
 bench: library target/bin/replay
 	cd reference && $(CARGO) run --release --offline --quiet -p snowpulley-bench
 	cd reference && $(CARGO) run --release --offline --quiet -p snowpulley-bench -- replay ../target/bin/replay
+
+# Mutants of the code, and of the definitions that contracts cite: make mutants CRATE=store N=60 SEED=7 (no CRATE: every crate)
+CRATE =
+N = 150
+mutants:
+	cd reference && $(CARGO) run --release --offline --quiet -p snowpulley-mutants -- run $(addprefix --crate ,$(CRATE)) --code $(N) --seed $(SEED) ..
+
+# Each wrong answer below crates/*/must-fail/quick, tried in seconds: make wrong-answers CRATE=store (no CRATE: every crate)
+wrong-answers:
+	cd reference && $(CARGO) run --release --offline --quiet -p snowpulley-mutants -- edits $(addprefix --crate ,$(CRATE)) ..
 
 # What the proved programs are held to is what the second program writes.
 expected: tools

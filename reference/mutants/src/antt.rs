@@ -1,0 +1,100 @@
+//! The definitions of a file of `specs/`: names, clauses and the terms in them.
+
+use std::ops::Range;
+
+/// A clause of a definition: the bytes right of its `=`.
+pub struct Clause {
+    pub name: String,
+    pub body: Range<usize>,
+}
+
+/// A definition's name, and whether what it defines is a statement and not a value.
+pub struct Signature {
+    pub name: String,
+    pub states: bool,
+}
+
+pub struct Definitions {
+    pub signatures: Vec<Signature>,
+    pub clauses: Vec<Clause>,
+    /// Each word of a declaration that is neither a value's clause nor an import, by the declaration's name.
+    pub others: Vec<(String, Vec<String>)>,
+}
+
+/// A token of a term, as a range of bytes.
+#[derive(Clone, Copy)]
+pub struct Atom {
+    pub at: usize,
+    pub end: usize,
+}
+
+/// The items of a file, each from its first column to the next item, comments cut out.
+fn items(text: &str) -> Vec<Range<usize>> {
+    let mut found: Vec<Range<usize>> = Vec::new();
+    let mut at = 0;
+    for line in text.split_inclusive('\n') {
+        let end = at + line.len();
+        if line.starts_with("--") || line.trim().is_empty() {
+        } else if line.starts_with(' ') {
+            if let Some(last) = found.last_mut() {
+                last.end = end;
+            }
+        } else {
+            found.push(at..end);
+        }
+        at = end;
+    }
+    found
+}
+
+/// The words and signs of a term; parentheses and braces stand alone, comments are left out.
+pub fn atoms(text: &str, range: Range<usize>) -> Vec<Atom> {
+    let mut found = Vec::new();
+    let mut at = range.start;
+    while at < range.end {
+        let rest = &text[at..range.end];
+        let first = rest.chars().next().expect("a character");
+        let length = if rest.starts_with("--") {
+            rest.find('\n').unwrap_or(rest.len())
+        } else if first.is_whitespace() || "(){};,".contains(first) {
+            first.len_utf8()
+        } else {
+            rest.find(|c: char| c.is_whitespace() || "(){};,".contains(c)).unwrap_or(rest.len())
+        };
+        if !first.is_whitespace() && !rest.starts_with("--") {
+            found.push(Atom { at, end: at + length });
+        }
+        at += length;
+    }
+    found
+}
+
+pub fn definitions(text: &str) -> Definitions {
+    let mut found = Definitions { signatures: Vec::new(), clauses: Vec::new(), others: Vec::new() };
+    for item in items(text) {
+        let atoms = atoms(text, item.clone());
+        let word = |i: usize| atoms.get(i).map_or("", |a: &Atom| &text[a.at..a.end]);
+        let start = (0..atoms.len()).find(|&i| !matches!(word(i), "pub" | "abbrev" | "unfoldable")).unwrap_or(0);
+        let name = word(start).to_string();
+        let equals = (0..atoms.len()).find(|&i| word(i) == "=");
+        match name.as_str() {
+            "use" | "mod" | "infixl" | "infixr" | "infix" => {}
+            "data" | "record" => found.others.push((word(start + 1).to_string(), words(text, &atoms))),
+            _ if word(start + 1) == ":" => {
+                let states = text[item.clone()].trim_end().ends_with("Type 0");
+                found.signatures.push(Signature { name, states });
+            }
+            _ => {
+                if let Some(equals) = equals {
+                    found.clauses.push(Clause { name, body: atoms[equals].end..item.end });
+                }
+            }
+        }
+    }
+    found
+}
+
+/// Each word of a text.
+pub fn words(text: &str, atoms: &[Atom]) -> Vec<String> {
+    atoms.iter().map(|a| text[a.at..a.end].to_string()).collect()
+}
