@@ -2,7 +2,7 @@
 use mathlib.Core.Path.{_≡_, refl, sym, ap, _∙_}
 use mathlib.Core.Logic.{_⊎_, inl, inr}
 use mathlib.Core.Bool.{true, false, or-true}
-use mathlib.Core.List.{List, [], _∷_}
+use mathlib.Core.List.{List, [], _∷_, map}
 use Prim.Native.Nat.{ℕ, zero, suc, _*_, _^_, _≤_, _<_}
 use native.Mathlib.Omega.{arith}
 use lib.Dec.{ltb, eqb}
@@ -10,15 +10,16 @@ use lib.ListN.{length}
 use lib.Seq.{take-at}
 use borrow.Author.Tests.{lt-ltb, le-leb, ltb-true, ltb-false, eqb-true, eqb-false}
 use Rattle.wire.specs.Number.{Bytes}
-use Rattle.wire.proofs.Tests.{clash, cases}
+use Rattle.wire.proofs.Tests.{clash, cases, same-truth}
 use Rattle.checksum.proofs.Bounds.{fmix32-bound}
+use Rattle.ring.specs.Answer.{gives}
 use Rattle.ring.specs.Lists.{elem, distinct}
 use Rattle.ring.specs.Place.{tokenOf, placeNumber, placeOf, node, vnode}
 use Rattle.ring.specs.Build.{nodePlaces, places, ringOf, badArguments, buildAnswer, buildOutput}
 use Rattle.ring.specs.Sound.{inRange, soundRing}
 use Rattle.ring.specs.Meaning.{PlaceParts, PlaceOrder, BuiltRing, BuildsRing}
 use Rattle.ring.proofs.Answers.{given, not-given}
-use Rattle.ring.proofs.Elements.{not-in-nil, elem-head, elem-tail, elem-append, elem-sorted, distinct-cons, distinct-head, distinct-tail, distinct-sorted, distinct-append}
+use Rattle.ring.proofs.Elements.{not-in-nil, elem-head, elem-tail, elem-append, elem-map, elem-map-of, elem-sorted, distinct-cons, distinct-head, distinct-tail, distinct-sorted, distinct-append}
 use Rattle.ring.proofs.Sorting.{sorted-ascending}
 use Rattle.ring.proofs.Filling.{length-ring, arguments-fit, fit-640}
 
@@ -120,7 +121,7 @@ distinct-node s n (suc v) hn h =
     (λ e. e))
     (distinct-node s n v hn (omega arith))
 
-byte : (ids : List ℕ) → Bytes ids → (n : ℕ) → elem n ids ≡ true → n < 256
+pub byte : (ids : List ℕ) → Bytes ids → (n : ℕ) → elem n ids ≡ true → n < 256
 unfolding elem
 byte [] b n e = not-in-nil n e
 byte (m ∷ ids) b n e = cases (eqb m n) (λ q. rw (← eqb-true m n q) (b 0)) (λ q. byte ids (λ i. b (suc i)) n (rw q at e))
@@ -154,13 +155,32 @@ module _ (ids : List ℕ) (v s : ℕ) (b : Bytes ids) (fit : badArguments ids v 
       let f = arguments-fit ids v fit in
       let r = only-ring p e in
       let hn = byte ids b (r .0) (r .2) in
-      (rw (r .4) (place-bound (r .0) (r .1) s hn (omega (arith, r .3, f .1))), rw (r .4, place-vnode (r .0) (r .1) s hn (omega (arith, r .3, f .1))) (omega (arith, r .3, f .1)))
+      (rw (r .4) (place-bound (r .0) (r .1) s hn (omega (arith, r .3, f .most))), rw (r .4, place-vnode (r .0) (r .1) s hn (omega (arith, r .3, f .most))) (omega (arith, r .3, f .most)))
 
   ring-distinct : distinct (ringOf ids v s) ≡ true
   unfolding ringOf
   ring-distinct =
       let f = arguments-fit ids v fit in
-      distinct-sorted (places ids v s) (distinct-places v s (omega (arith, f .1)) ids b (f .2))
+      distinct-sorted (places ids v s) (distinct-places v s (omega (arith, f .most)) ids b (f .once))
+
+  -- a node has a place exactly if it is among the ids
+  ring-nodes : (n : ℕ) → elem n (map node (ringOf ids v s)) ≡ elem n ids
+  unfolding ringOf
+  ring-nodes n = same-truth (elem n (map node (ringOf ids v s))) (elem n ids) listed placed
+    where
+      listed : elem n (map node (ringOf ids v s)) ≡ true → elem n ids ≡ true
+      listed e =
+          let f = arguments-fit ids v fit in
+          let q = elem-map-of node n (ringOf ids v s) e in
+          let r = only-ring (q .0) (q .1) in
+          let z : n ≡ r .0 = sym (q .2) ∙ ap node (r .4) ∙ place-node (r .0) (r .1) s (byte ids b (r .0) (r .2)) (omega (arith, r .3, f .most)) in
+          rw z (r .2)
+
+      placed : elem n ids ≡ true → elem n (map node (ringOf ids v s)) ≡ true
+      placed e =
+          let f = arguments-fit ids v fit in
+          let h : elem (placeOf n 0 s) (ringOf ids v s) ≡ true = elem-sorted (placeOf n 0 s) (places ids v s) ∙ has-place v s ids n 0 e (f .some) in
+          rw (place-node n 0 s (byte ids b n e) (omega arith)) at (elem-map node (placeOf n 0 s) (ringOf ids v s) h)
 
   built : BuiltRing ids v s (ringOf ids v s)
   unfolding soundRing ringOf
@@ -172,6 +192,7 @@ module _ (ids : List ℕ) (v s : ℕ) (b : Bytes ids) (fit : badArguments ids v 
         size = length-ring ids v s;
         has = λ n i e h. elem-sorted (placeOf n i s) (places ids v s) ∙ has-place v s ids n i e h;
         only = only-ring;
+        nodes = ring-nodes;
       }
 
 pub builds-ring : BuildsRing
@@ -184,3 +205,8 @@ builds-ring ids v s slice n b e =
     (λ r.
     let m : length (ringOf ids v s) ≡ n = length-ring ids v s ∙ given (rw (h, r) at e) in
     rw (h, r, take-at (ringOf ids v s) _ n m) (built ids v s b h)))
+
+-- no id of a ring that was built is listed twice
+pub listed-once : (ids : List ℕ) (v : ℕ) (slice : List ℕ) (n : ℕ) → buildAnswer ids v slice ≡ gives n → distinct ids ≡ true
+unfolding buildAnswer
+listed-once ids v slice n e = cases (badArguments ids v) (λ h. not-given (rw h at e)) (λ h. arguments-fit ids v h .once)

@@ -1,7 +1,7 @@
 -- Laws of `elem` and `distinct`.
 use mathlib.Core.Path.{_≡_, refl, sym, ap, _∙_}
 use mathlib.Core.Bool.{Bool, true, false, not, _&&_, _||_, or-true, or-assoc, or-comm}
-use mathlib.Core.List.{List, [], _∷_, _++_}
+use mathlib.Core.List.{List, [], _∷_, _++_, map}
 use Prim.Native.Nat.{ℕ, zero, suc, _<_}
 use native.Mathlib.Omega.{arith}
 use lib.ListN.{length, getD, take, drop, take-append-drop}
@@ -67,6 +67,22 @@ elem-firsts k [] = refl
 elem-firsts k (n ∷ l) =
     cases (eqb n k) (λ e. rw e) (λ e. rw (e, elem-filter (λ m. not (eqb n m)) k (firsts l), e) (elem-firsts k l))
 
+-- what is made of the numbers of a list
+module _ (f : ℕ → ℕ) where
+  pub elem-map : (p : ℕ) (l : List ℕ) → elem p l ≡ true → elem (f p) (map f l) ≡ true
+  unfolding elem
+  elem-map p [] e = not-in-nil p e
+  elem-map p (q ∷ l) e = cases (eqb q p)
+      (λ z. rw (eqb-true q p z) (elem-head (f p) (map f l)))
+      (λ z. elem-tail (f p) (f q) (map f l) (elem-map p l (rw z at e)))
+
+  pub elem-map-of : (k : ℕ) (l : List ℕ) → elem k (map f l) ≡ true → (p : ℕ) × (elem p l ≡ true) × (f p ≡ k)
+  unfolding elem
+  elem-map-of k [] e = not-in-nil k e
+  elem-map-of k (q ∷ l) e = cases (eqb (f q) k)
+      (λ z. (q, elem-head q l, eqb-true (f q) k z))
+      (λ z. let r = elem-map-of k l (rw z at e) in (r .0, elem-tail (r .0) q l (r .1), r .2))
+
 elem-insert : (k p : ℕ) (l : List ℕ) → elem k (insert p l) ≡ (eqb p k || elem k l)
 unfolding elem insert
 elem-insert k p [] = refl
@@ -92,7 +108,7 @@ module _ (n : ℕ) (l : List ℕ) (d : distinct (n ∷ l) ≡ true) where
   unfolding distinct
   distinct-tail = and-true (not (elem n l)) (distinct l) d .1
 
-distinct-filter : (f : ℕ → Bool) (l : List ℕ) → distinct l ≡ true → distinct (filter f l) ≡ true
+pub distinct-filter : (f : ℕ → Bool) (l : List ℕ) → distinct l ≡ true → distinct (filter f l) ≡ true
 unfolding filter
 distinct-filter f [] d = d
 distinct-filter f (n ∷ l) d =

@@ -97,18 +97,24 @@ fill-done ids v s n ring ws ss q w e =
 
 -- ---- the answer, check by check
 -- arguments that pass the checks of 17
-pub arguments-fit : (ids : List ℕ) (v : ℕ) → badArguments ids v ≡ false → (length ids ≤ 10) × (v ≤ 64) × (distinct ids ≡ true)
+pub record Fit (ids : List ℕ) (v : ℕ) : Type 0 where
+  pub few : length ids ≤ 10
+  pub some : 1 ≤ v
+  pub most : v ≤ 64
+  pub once : distinct ids ≡ true
+
+pub arguments-fit : (ids : List ℕ) (v : ℕ) → badArguments ids v ≡ false → Fit ids v
 unfolding badArguments
 arguments-fit ids v h =
     let a = or-false (ltb 10 (length ids) || ltb v 1 || ltb 64 v) (not (distinct ids)) h in
     let b = or-false (ltb 10 (length ids) || ltb v 1) (ltb 64 v) (a .0) in
     let d = or-false (ltb 10 (length ids)) (ltb v 1) (b .0) in
-    (ltb-false 10 (length ids) (d .0), ltb-false 64 v (b .1), not-false (distinct ids) (a .1))
+    record { few = ltb-false _ _ (d .0); some = ltb-false _ _ (d .1); most = ltb-false _ _ (b .1); once = not-false _ (a .1) }
 
 pub fit-640 : (ids : List ℕ) (v : ℕ) → badArguments ids v ≡ false → length ids * v ≤ 640
 fit-640 ids v h =
     let f = arguments-fit ids v h in
-    le-trans (mul-le-mul-left (length ids) (f .1)) (mul-le-mul-right 64 (f .0))
+    le-trans (mul-le-mul-left (length ids) (f .most)) (mul-le-mul-right 64 (f .few))
 
 module _ (ids : List ℕ) (v : ℕ) (ring : List ℕ) where
   -- an answer and the slice that goes with it

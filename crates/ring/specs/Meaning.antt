@@ -11,7 +11,7 @@ use Rattle.peers.specs.declared.Admission.{Admission}
 use Rattle.peers.specs.Table.{soundTable}
 use Rattle.peers.specs.Admitted.{admits}
 use Rattle.ring.specs.Answer.{gives, refuses}
-use Rattle.ring.specs.Lists.{elem, distinct, firstAt}
+use Rattle.ring.specs.Lists.{elem, distinct, filter, firstAt}
 use Rattle.ring.specs.Place.{placeNumber, token, node, vnode, placeOf}
 use Rattle.ring.specs.Build.{buildAnswer, buildOutput}
 use Rattle.ring.specs.Sound.{soundRing}
@@ -29,12 +29,13 @@ PlaceOrder = (t n i t′ n′ i′ : ℕ) → n < 256 → i < 256 → n′ < 256
     → placeNumber t n i < placeNumber t′ n′ i′ ↔ (t < t′) ⊎ ((t ≡ t′) × (n < n′)) ⊎ ((t ≡ t′) × (n ≡ n′) × (i < i′))
 
 -- ---- building
--- the ring is sound and has exactly the places of its ids
+-- the ring is sound and has exactly the places of its ids; a node has a place exactly if it is one of them
 pub record BuiltRing (ids : List ℕ) (v s : ℕ) (ring : List ℕ) : Type 0 where
   pub sound : soundRing ring ≡ true
   pub size : length ring ≡ length ids * v
   pub has : (n i : ℕ) → elem n ids ≡ true → i < v → elem (placeOf n i s) ring ≡ true
   pub only : (p : ℕ) → elem p ring ≡ true → (n : ℕ) × (i : ℕ) × (elem n ids ≡ true) × (i < v) × (p ≡ placeOf n i s)
+  pub nodes : (n : ℕ) → elem n (map node ring) ≡ elem n ids
 
 -- what a successful build leaves at the front of the slice
 abbrev pub BuildsRing : Type 0
@@ -68,3 +69,9 @@ abbrev pub TooFewExactly : Type 0
 TooFewExactly = (ring : List ℕ) (peers : PeerTable) (a : Admission) (r : ℕ) (out : List ℕ)
     → soundRing ring ≡ true → soundTable peers ≡ true → 1 ≤ r → r ≤ 3
     → ownersAnswer ring peers a r out ≡ refuses 10 ↔ admittedWithPlace (admits a peers) ring < r
+
+-- on a ring that was built, TOO_FEW exactly when fewer than r of its ids are admitted
+abbrev pub TooFewOfIds : Type 0
+TooFewOfIds = (ids : List ℕ) (v s : ℕ) (slice : List ℕ) (n : ℕ) → Bytes ids → buildAnswer ids v slice ≡ gives n
+    → (peers : PeerTable) (a : Admission) (r : ℕ) (out : List ℕ) → soundTable peers ≡ true → 1 ≤ r → r ≤ 3
+    → ownersAnswer (take n (buildOutput ids v s slice)) peers a r out ≡ refuses 10 ↔ length (filter (admits a peers) ids) < r
