@@ -52,10 +52,20 @@ abbrev pub AddAppends : Type 0
 AddAppends = (i a p n now : ℕ) (t : PeerTable) → length (t .rows) ≡ 10 → addAnswer i now t ≡ 0
     → rowsOf (afterAdd i a p n now t) ≡ rowsOf t ++ newRow i a p n now ∷ []
 
--- ---- tick
+-- ---- row by row
 abbrev pub rowAt : ℕ → PeerTable → Row
 rowAt k t = getD (t .rows) k noRow
 
+-- an event about an id leaves the own row, and every row of another id
+pub record KeepsOthers (i : ℕ) (event : PeerTable → PeerTable) : Type 0 where
+  pub own : (t : PeerTable) → rowAt 0 (event t) ≡ rowAt 0 t
+  pub other : (t : PeerTable) (k : ℕ) → (rowAt k t .id ≡ i → ⊥) → rowAt k (event t) ≡ rowAt k t
+
+pub record OtherRowsKept : Type 0 where
+  pub heard : (i n now : ℕ) → KeepsOthers i (afterHeard i n now)
+  pub reported : (i s n now : ℕ) → KeepsOthers i (afterReported i s n now)
+
+-- ---- tick
 -- a tick never improves a state
 abbrev pub TickNeverImproves : Type 0
 TickNeverImproves = (now k : ℕ) (t : PeerTable) → rowAt k t .state ≤ rowAt k (afterTick now t) .state
