@@ -8,7 +8,7 @@ use lib.Dec.{lit<}
 use lib.Pow.{shr-le}
 use Rattle.checksum.specs.Crc32c.{polynomial, bitStep, steps, byteStep, run, crc32c}
 use Rattle.checksum.specs.Fmix32.{fmix32, xorShift, times}
-use Rattle.checksum.specs.Laws.{RunBound, Crc32cBound, Fmix32Bound}
+use Rattle.checksum.specs.Meaning.{RunBound, Crc32cBound, Fmix32Bound}
 use Rattle.checksum.proofs.Xor.{low-lt}
 
 bitStep-lt : (c : ℕ) → c < 2 ^ 32 → bitStep c < 2 ^ 32

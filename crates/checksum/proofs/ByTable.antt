@@ -12,7 +12,7 @@ use lib.Seq.{drop-drop, length-take-le, take-add}
 use Rattle.checksum.specs.Crc32c.{steps, byteStep, run, crc32c}
 use Rattle.checksum.specs.Table.{bytesSteps, crcTable, entryOf, byteStepWith, bytesWith, lanesWith, littleEndian, blockWith, blocksWith, runWith, crcWith, PartWith, ChecksumWith}
 use Rattle.wire.specs.Number.{Bytes}
-use Rattle.checksum.specs.Laws.{RunWithTable, CrcWithTable}
+use Rattle.checksum.specs.Meaning.{RunWithTable, CrcWithTable}
 use Rattle.checksum.proofs.Xor.{xor-assoc}
 use Rattle.checksum.proofs.Linear.{steps-shifted, bytesSteps-xor, bytesSteps-split, byteStep-table, run-word, run-append}
 use Rattle.checksum.proofs.Words.{bytes-take, bytes-drop, take-lt, sixteen-bytes}

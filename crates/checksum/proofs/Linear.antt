@@ -10,7 +10,7 @@ use lib.ListN.{length, replicate}
 use Rattle.checksum.specs.Crc32c.{polynomial, bitStep, steps, byteStep, run}
 use Rattle.checksum.specs.Table.{bytesSteps, littleEndian}
 use Rattle.wire.specs.Number.{Bytes}
-use Rattle.checksum.specs.Laws.{RunAppend, RunXor, RunZeros, BytesStepsXor}
+use Rattle.checksum.specs.Meaning.{RunAppend, RunXor, RunZeros, BytesStepsXor}
 use Rattle.checksum.proofs.Xor.{xor-half, xor-low, xor-assoc, xor-middle, low-lt}
 
 scaled : (x y : ℕ) → x < 2 → y < 2 → differ x y * polynomial ≡ bitXor (x * polynomial) (y * polynomial)

@@ -10,7 +10,7 @@ use lib.Seq.{getD-drop, getD-take, getD-append-add, ext-getD}
 use lib.Dec.{lit<}
 use Rattle.checksum.specs.Crc32c.{bitStep, steps}
 use Rattle.checksum.specs.Table.{bytesSteps, range, row, rows, crcTable, entryOf}
-use Rattle.checksum.specs.Laws.{TableRule}
+use Rattle.checksum.specs.Meaning.{TableRule}
 use Rattle.checksum.proofs.Linear.{bytesSteps-last}
 
 mapped-length : (f : ℕ → ℕ) (n i : ℕ) → length (map f (range i n)) ≡ n

@@ -1,4 +1,4 @@
 pub mod Crc32c
 pub mod Table
 pub mod Fmix32
-pub mod Laws
+pub mod Meaning

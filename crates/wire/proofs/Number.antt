@@ -9,6 +9,7 @@ use lib.ListN.{length, take, drop, getD, set, length-append}
 use lib.Seq.{drop-length, append-snoc, take-all, take-suc}
 use lib.Dec.{lit<}
 use Rattle.wire.specs.Number.{be, numFrom, num, Bytes}
+use Rattle.wire.specs.Meaning.{NumBe, BeNum}
 
 pub length-be : (w n : ℕ) → length (be w n) ≡ w
 unfolding be
@@ -28,8 +29,7 @@ num-be-step : (w n : ℕ) → num (be (suc w) n) ≡ num (be w (n / 256)) * 256 
 unfolding be
 num-be-step w n = num-snoc (be w (n / 256)) (n % 256)
 
--- a number that fits its bytes reads back
-pub num-be : (w n : ℕ) → n < 256 ^ w → num (be w n) ≡ n
+pub num-be : NumBe
 unfolding be num numFrom
 num-be zero n h = omega arith
 num-be (suc w) n h =
@@ -123,7 +123,6 @@ be-numFrom (b ∷ s) a i h =
     rw e (be-numFrom s (a * 256 + b) (i + 1) (bytes-tail b s h)
     ∙ ap (λ (r : List ℕ). r ++ s) (be-one-more i a b (h 0)) ∙ append-snoc (be i a) b s)
 
--- the bytes of the number that bytes stand for are those bytes
-pub be-num : (s : List ℕ) → Bytes s → be (length s) (num s) ≡ s
+pub be-num : BeNum
 unfolding num be
 be-num s h = let e : 0 + length s ≡ length s = omega arith in rw e at (be-numFrom s 0 0 h)

@@ -1,3 +1,4 @@
 pub mod Number
 pub mod Fill
 pub mod Order
+pub mod Meaning
