@@ -1,17 +1,17 @@
--- The rule of the table at each of its entries, and that the rule of its rows determines it.
-use mathlib.Core.Path.{_≡_, refl, sym, ap, _∙_}
-use mathlib.Core.List.{List, _++_, map}
-use Prim.Native.Nat.{ℕ, zero, suc, _+_, _*_, _/_, _%_, _<_}
-use native.Mathlib.Nat.{add-zero, zero-add, mod-lt, div-add-mod'}
+-- The rule of the table at each of its entries, and the table from what it has at the powers of two.
+use mathlib.Core.Path.{_≡_, refl, sym, ap, ap₂, _∙_}
+use mathlib.Core.List.{List, [], _∷_, _++_, map, map-append}
+use Prim.Native.Nat.{ℕ, zero, suc, _+_, _*_, _^_, _≤_, _<_}
+use native.Mathlib.Nat.{add-zero, zero-add, suc-add, pow-suc}
 use native.Mathlib.Omega.{arith}
 use native.Mathlib.Numerals.{add-one}
-use lib.ListN.{length, getD, take, drop, length-append, List·getD-append, List·getD-map}
-use lib.Seq.{getD-drop, getD-take, getD-append-add, ext-getD}
-use lib.Dec.{lit<}
+use lib.ListN.{length, getD, length-append, List·getD-append}
+use lib.Seq.{getD-append-add}
+use lib.Bits.{bitXor, xor-shifted}
 use Rattle.checksum.specs.Crc32c.{bitStep, steps}
 use Rattle.checksum.specs.Table.{bytesSteps, range, row, rows, crcTable, entryOf}
 use Rattle.checksum.specs.Meaning.{TableRule}
-use Rattle.checksum.proofs.Linear.{bytesSteps-last}
+use Rattle.checksum.proofs.Linear.{bytesSteps-xor, bytesSteps-last}
 
 mapped-length : (f : ℕ → ℕ) (n i : ℕ) → length (map f (range i n)) ≡ n
 unfolding range
@@ -61,42 +61,72 @@ pub table-rule : TableRule
 unfolding crcTable
 table-rule = record { size = rows-length 16 0; entry = λ k i hk hi. rows-at 16 0 k i hk hi ∙ ap (λ (m : ℕ). bytesSteps (m + 1) i) (zero-add k) }
 
--- ---- a table whose rows follow each other so is the table
+-- ---- the table from eight numbers: a row is linear, so what it has at the powers of two spans it
 
-steps-zero : steps 8 0 ≡ 0
-unfolding steps bitStep
-steps-zero = refl
+-- at i the sum of the numbers that the digits of i choose, the last number for the lowest digit
+unfoldable pub spanned : List ℕ → List ℕ
+spanned [] = 0 ∷ []
+spanned (x ∷ b) = doubled (spanned b) x
+  where
+    doubled : List ℕ → ℕ → List ℕ
+    doubled l x = l ++ map (bitXor x) l
 
-module _ (t : List ℕ) (first : take 256 t ≡ map (steps 8) (range 0 256)) (next : drop 256 t ≡ map (steps 8) (take 3840 t)) where
-  first-at : (i : ℕ) → i < 256 → getD t i 0 ≡ steps 8 i
-  first-at i h =
-      sym (getD-take 256 t i 0 h) ∙ ap (λ (l : List ℕ). getD l i 0) first ∙ mapped-at (steps 8) 256 0 i h ∙ ap (steps 8) (zero-add i)
+-- n rows, by what spans the first
+unfoldable pub spannedRows : ℕ → List ℕ → List ℕ
+spannedRows zero b = []
+spannedRows (suc n) b = spanned b ++ spannedRows n (map (steps 8) b)
 
-  next-at : (j : ℕ) → j < 3840 → getD t (256 + j) 0 ≡ steps 8 (getD t j 0)
-  next-at j h =
-      sym (getD-drop 256 t j 0) ∙ ap (λ (l : List ℕ). getD l j 0) next
-      ∙ ap (getD (map (steps 8) (take 3840 t)) j) (sym steps-zero)
-      ∙ List·getD-map (steps 8) (take 3840 t) j 0
-      ∙ ap (steps 8) (getD-take 3840 t j 0 h)
+-- 2^(j − 1) down to 1
+unfoldable pub powers : ℕ → List ℕ
+powers zero = []
+powers (suc j) = 2 ^ j ∷ powers j
 
-  entry-at : (k i : ℕ) → k < 16 → i < 256 → entryOf t k i ≡ bytesSteps (suc k) i
-  unfolding bytesSteps
-  entry-at zero i hk hi = ap (λ (j : ℕ). getD t j 0) (zero-add i) ∙ first-at i hi
-  entry-at (suc k) i hk hi =
-      ap (λ (j : ℕ). getD t j 0) e ∙ next-at (k * 256 + i) (omega arith)
-      ∙ ap (steps 8) (entry-at k i (omega arith) hi) ∙ sym (bytesSteps-last (suc k) i)
-    where
-      e : suc k * 256 + i ≡ 256 + (k * 256 + i)
-      e = omega arith
+range-append : (m n i : ℕ) → range i (m + n) ≡ range i m ++ range (i + m) n
+unfolding range
+range-append zero n i = ap₂ range (sym (add-zero i)) (zero-add n)
+range-append (suc m) n i =
+    let e : suc i + m ≡ i + suc m = omega arith in
+    rw (suc-add m n) (ap (λ (l : List ℕ). i ∷ l) (rw e at (range-append m n (suc i))))
 
-  pub determined : length t ≡ 4096 → t ≡ crcTable
-  determined l =
-      ext-getD 0 t crcTable (l ∙ sym (table-rule .size))
-      (λ j h.
-      let b : j / 256 < 16 = omega arith in
-      let m : j % 256 < 256 = mod-lt j (lit< tt) in
-      let e : j ≡ j / 256 * 256 + j % 256 = sym (div-add-mod' j 256) in
-      ap (λ (n : ℕ). getD t n 0) e ∙ entry-at (j / 256) (j % 256) b m
-      ∙ ap (λ (n : ℕ). bytesSteps n (j % 256)) (sym (add-one (j / 256)))
-      ∙ sym (table-rule .entry (j / 256) (j % 256) b m)
-      ∙ ap (λ (n : ℕ). getD crcTable n 0) (sym e))
+module _ (f : ℕ → ℕ) (linear : (a b : ℕ) → f (bitXor a b) ≡ bitXor (f a) (f b)) (none : f 0 ≡ 0) where
+  -- from 2^j on: what the numbers below it become, with what it becomes itself
+  upper : (j n i : ℕ) → i + n ≤ 2 ^ j → map f (range (2 ^ j + i) n) ≡ map (bitXor (f (2 ^ j))) (map f (range i n))
+  unfolding range
+  upper j zero i h = refl
+  upper j (suc n) i h =
+      let e : 1 * 2 ^ j ≡ 2 ^ j = omega arith in
+      let s : 2 ^ j + suc i ≡ suc (2 ^ j + i) = omega arith in
+      let x : bitXor (2 ^ j) i ≡ 2 ^ j + i = rw e at (xor-shifted 1 j i (omega arith)) in
+      ap₂ _∷_ (ap f (sym x) ∙ linear (2 ^ j) i) (rw s at (upper j n (suc i) (omega arith)))
+
+  span-range : (j : ℕ) → spanned (map f (powers j)) ≡ map f (range 0 (2 ^ j))
+  unfolding spanned powers range
+  span-range zero = ap (λ (x : ℕ). x ∷ []) (sym none)
+  span-range (suc j) =
+      let n : ℕ = 2 ^ j in
+      let e : 2 ^ suc j ≡ n + n = pow-suc 2 j ∙ omega arith in
+      let u : map f (range n n) ≡ map (bitXor (f n)) (map f (range 0 n)) = rw add-zero at (upper j n 0 (omega arith)) in
+      let r : range 0 (2 ^ suc j) ≡ range 0 n ++ range n n = rw e (rw (zero-add n) at (range-append n n 0)) in
+      rw (span-range j, r) (ap (λ (l : List ℕ). map f (range 0 n) ++ l) (sym u) ∙ sym (map-append f (range 0 n) (range n n)))
+
+steps-zero : (n : ℕ) → bytesSteps n 0 ≡ 0
+unfolding bytesSteps steps bitStep
+steps-zero zero = refl
+steps-zero (suc n) = steps-zero n
+
+row-spanned : (k : ℕ) → spanned (map (bytesSteps (k + 1)) (powers 8)) ≡ row k
+unfolding row
+row-spanned k = span-range (bytesSteps (k + 1)) (bytesSteps-xor (k + 1)) (steps-zero (k + 1)) 8
+
+next-row : (k : ℕ) (b : List ℕ) → map (steps 8) (map (bytesSteps (k + 1)) b) ≡ map (bytesSteps (suc k + 1)) b
+next-row k [] = refl
+next-row k (x ∷ b) = ap₂ _∷_ (rw (add-one k, add-one (suc k)) (sym (bytesSteps-last (suc k) x))) (next-row k b)
+
+rows-spanned : (n k : ℕ) → spannedRows n (map (bytesSteps (k + 1)) (powers 8)) ≡ rows k n
+unfolding spannedRows rows
+rows-spanned zero k = refl
+rows-spanned (suc n) k = ap₂ _++_ (row-spanned k) (ap (spannedRows n) (next-row k (powers 8)) ∙ rows-spanned n (suc k))
+
+pub spanned-table : spannedRows 16 (map (steps 8) (powers 8)) ≡ crcTable
+unfolding crcTable bytesSteps
+spanned-table = rows-spanned 16 0
