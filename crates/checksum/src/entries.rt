@@ -1,5 +1,5 @@
 // The entries of CRC32C's table: sixteen rows of 256. Row k has at i what i becomes after k + 1 bytes.
-pub const TABLE: [u32; 4096] = [
+pub(crate) const TABLE: [u32; 4096] = [
     0,
     4067132163,
     3778769143,

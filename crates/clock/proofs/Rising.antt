@@ -2,14 +2,14 @@
 use mathlib.Core.Path.{_≡_, refl}
 use mathlib.Core.Logic.{_⊎_, inl, inr}
 use mathlib.Core.Bool.{false, _||_}
-use Prim.Native.Nat.{ℕ, _+_, _≤_, _<_, _^_}
+use Prim.Native.Nat.{ℕ, _+_, _≤_, _<_, _^_, max}
 use native.Mathlib.Omega.{arith}
 use lib.Dec.{ltb, leb}
-use borrow.Author.Tests.{ltb-true, leb-false}
+use borrow.Author.Tests.{ltb-true, ltb-false, leb-false}
 use Rattle.wire.proofs.Tests.{test, clash}
 use Rattle.entry.proofs.Order.{stamp-order-by-field}
 use Rattle.clock.specs.declared.Clock.{Clock}
-use Rattle.clock.specs.Clock.{next, refused, stampOf, later, raise, withSkew, sendStep, receiveInRange, receiveStep}
+use Rattle.clock.specs.Clock.{next, refused, stampOf, raise, withSkew, sendStep, receiveInRange, receiveStep}
 use Rattle.clock.specs.Meaning.{Rises, SendRises, ReceiveRises}
 
 -- a refusal is no next clock
@@ -83,14 +83,11 @@ skew-rises : (c : Clock) → c .skew ≤ withSkew c .skew
 unfolding withSkew
 skew-rises c = elim (test (leb 4294967295 (c .skew))) [ inl p ↦ rw p (omega arith) | inr p ↦ rw p (omega arith) ]
 
-later-than : (a b l : ℕ) → (a < later a b) ⊎ ((a ≡ later a b) × (l ≡ l))
+later-than : (a b l : ℕ) → (a < max a b) ⊎ ((a ≡ max a b) × (l ≡ l))
 later-than a b l = elim (test (ltb a b)) [
-  | inl p ↦ rw p (inl (ltb-true a b p))
-  | inr p ↦ rw p (inr (refl, refl))
+  | inl p ↦ let h : a < b = ltb-true a b p in inl (omega arith)
+  | inr p ↦ let h : b ≤ a = ltb-false a b p in inr (omega arith, refl)
 ]
-
-later-timely : (a b : ℕ) → a < 2 ^ 48 → b < 2 ^ 48 → later a b < 2 ^ 48
-later-timely a b h k = elim (test (ltb a b)) [ inl p ↦ rw p k | inr p ↦ rw p h ]
 
 pub receive-rises : ReceiveRises
 unfolding receiveStep receiveInRange
@@ -101,7 +98,7 @@ receive-rises c d p l now e = elim (test (leb (2 ^ 48) now || leb (2 ^ 48) (c .p
     | inr a ↦
         let t = in-range now (c .phys) b in
         elim (test (ltb (now + 2000) p)) [
-          | inl q ↦ raised c (withSkew c) d (later (c .phys) now) (c .logical) (simp (b, a, q) at e) (skew-node c) (skew-rises c) (later-timely (c .phys) now (t .1) (t .0)) (later-than (c .phys) now (c .logical))
+          | inl q ↦ raised c (withSkew c) d (max (c .phys) now) (c .logical) (simp (b, a, q) at e) (skew-node c) (skew-rises c) (omega arith) (later-than (c .phys) now (c .logical))
           | inr q ↦ elim (test (ltb (c .phys) p)) [
             | inl r ↦ raised c c d p l (simp (b, a, q, r) at e) refl (omega arith) (leb-false (2 ^ 48) p a) (inl (ltb-true (c .phys) p r))
             | inr r ↦ raised c c d (c .phys) (c .logical) (simp (b, a, q, r) at e) refl (omega arith) (t .1) (inr (refl, refl))

@@ -2,14 +2,14 @@
 use mathlib.Core.Path.{_≡_}
 use mathlib.Core.Logic.{inl, inr}
 use mathlib.Core.Bool.{_||_}
-use Prim.Native.Nat.{ℕ, _+_, _≤_, _<_, _^_}
+use Prim.Native.Nat.{ℕ, _+_, _≤_, _<_, _^_, max}
 use native.Mathlib.Omega.{arith}
 use lib.Dec.{ltb, leb}
 use borrow.Author.Tests.{lt-ltb, le-ltb, le-leb, lt-leb}
 use Rattle.wire.proofs.Tests.{test}
 use Rattle.entry.specs.Entry.{badTime}
 use Rattle.clock.specs.declared.Clock.{Clock}
-use Rattle.clock.specs.Clock.{Stepped, next, refused, later, raise, withSkew, sendStep, receiveInRange, receiveStep}
+use Rattle.clock.specs.Clock.{Stepped, next, refused, raise, withSkew, sendStep, receiveInRange, receiveStep}
 
 module _ (c : Clock) (now : ℕ) where
   pub send-bad-now : 2 ^ 48 ≤ now → refused 9 ≡ sendStep c now
@@ -49,7 +49,7 @@ module _ (c : Clock) (p l now : ℕ) where
       unfolding receiveStep
       receive-in-range h = rw (lt-leb (2 ^ 48) now n, lt-leb (2 ^ 48) (c .phys) q, lt-leb (2 ^ 48) p h)
 
-  pub far-ahead : now + 2000 < p → receiveInRange c p l now ≡ raise (withSkew c) (later (c .phys) now) (c .logical)
+  pub far-ahead : now + 2000 < p → receiveInRange c p l now ≡ raise (withSkew c) (max (c .phys) now) (c .logical)
   unfolding receiveInRange
   far-ahead h = rw (lt-ltb (now + 2000) p h)
 
@@ -83,7 +83,7 @@ unfolding receiveStep receiveInRange
 receive-numbered c p l now = elim (test (badTime now || badTime (c .phys) || badTime p)) [
   | inl h ↦ rw h (omega arith)
   | inr h ↦ rw h (elim (test (ltb (now + 2000) p)) [
-    | inl k ↦ rw k (raise-numbered (withSkew c) (later (c .phys) now) (c .logical))
+    | inl k ↦ rw k (raise-numbered (withSkew c) (max (c .phys) now) (c .logical))
     | inr k ↦ rw k (elim (test (ltb (c .phys) p)) [
       | inl j ↦ rw j (raise-numbered c p l)
       | inr j ↦ rw j (raise-numbered c (c .phys) (c .logical))

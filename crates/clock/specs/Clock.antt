@@ -1,5 +1,5 @@
 -- The clock's steps.
-use Prim.Native.Nat.{ℕ, _+_, _^_}
+use Prim.Native.Nat.{ℕ, _+_, _^_, max}
 use mathlib.Core.Bool.{cond, _||_}
 use lib.Dec.{ltb, leb}
 use Rattle.entry.specs.declared.Stamp.{Stamp}
@@ -18,9 +18,6 @@ freshClock node = record { phys = 0; logical = 0; node = node; skew = 0 }
 -- the stamp of a clock
 abbrev pub stampOf : Clock → Stamp
 stampOf c = record { phys = c .phys; logical = c .logical; node = c .node }
-
-abbrev pub later : ℕ → ℕ → ℕ
-later a b = cond (ltb a b) b a
 
 -- the clock at phys p with the logical count l raised by one: 8 if that is 65,535
 unfoldable pub raise : Clock → ℕ → ℕ → Stepped
@@ -41,7 +38,7 @@ sendStep c now =
 -- otherwise, if p > P, it becomes (p, l + 1); otherwise (P, L + 1)
 unfoldable pub receiveInRange : Clock → ℕ → ℕ → ℕ → Stepped
 receiveInRange c p l now =
-    cond (ltb (now + 2000) p) (raise (withSkew c) (later (c .phys) now) (c .logical))
+    cond (ltb (now + 2000) p) (raise (withSkew c) (max (c .phys) now) (c .logical))
     (cond (ltb (c .phys) p) (raise c p l)
     (raise c (c .phys) (c .logical)))
 

@@ -2,9 +2,10 @@
 use entry::Refusal;
 use entry::Stamp;
 use entry::TIME_LIMIT;
+use entry::later;
 ghost use mathlib.Core.Path.{_≡_};
 ghost use Prim.Native.Nat.{_^_, _<_};
-ghost use Rattle.clock.specs.Clock.{freshClock, stampOf, raise, withSkew, sendStep, receiveInRange, receiveStep, later as laterOf};
+ghost use Rattle.clock.specs.Clock.{freshClock, stampOf, raise, withSkew, sendStep, receiveInRange, receiveStep};
 ghost use Rattle.clock.specs.Answer.{stepMeaning, Sends, Receives};
 
 // A received time further ahead of the local reading than this counts as a skew event.
@@ -183,11 +184,4 @@ impl Clock {
             },
         }
     }
-}
-
-// The later of two times.
-fn later(a: u64, b: u64) -> u64
-    ensures { λ r. ⌜ r ≡ laterOf a b ⌝ }
-{
-    if a < b { b } else { a }
 }

@@ -2,6 +2,7 @@
 use wire::starts_with;
 ghost use mathlib.Core.Path.{_≡_};
 ghost use mathlib.Core.Bool.{not};
+ghost use Prim.Native.Nat.{max};
 ghost use Rattle.entry.specs.Refusal.{number};
 ghost use Rattle.entry.specs.Key.{reserved, badKey};
 ghost use Rattle.entry.specs.Order.{least, stampBelow};
@@ -105,6 +106,13 @@ impl Stamp {
         }
         self.node < other.node
     }
+}
+
+// The later of two times.
+pub fn later(a: u64, b: u64) -> u64
+    ensures { λ r. ⌜ r ≡ max a b ⌝ }
+{
+    if a < b { b } else { a }
 }
 
 // Whether an entry passes the checks that an offer makes of the entry alone.

@@ -1,13 +1,14 @@
 // The peer table: each peer's address, state and when it was last seen. A table goes in by value and each event hands it back changed.
 use entry::Refusal;
 use entry::TIME_LIMIT;
+use entry::later;
 ghost use mathlib.Core.Path.{_≡_};
-ghost use Prim.Native.Nat.{_+_, _<_, _≤_, max};
+ghost use Prim.Native.Nat.{_+_, _<_, _≤_};
 ghost use lib.ListN.{length, drop};
 ghost use Rattle.entry.specs.Refusal.{number};
 ghost use Rattle.peers.specs.Row.{ageAt, inRange, newRow, heardRow, reportedRow, tickRow};
 ghost use Rattle.peers.specs.Table.{rowsOf, indexOf, soundTable, rowsInRange, distinct, onOthers};
-ghost use Rattle.peers.specs.Admitted.{admitsRow, admits, admittedFlags};
+ghost use Rattle.peers.specs.Admitted.{admitsRow, admittedFlags};
 ghost use Rattle.peers.specs.Event.{Gives, answerNumber, freshAnswer, afterFresh, addAnswer, afterAdd, heardAnswer, afterHeard, reportedAnswer, afterReported, tickAnswer, afterTick, withRows, rowSet};
 
 // What is thought of a peer.
@@ -60,13 +61,6 @@ pub enum Admission {
 // A flag for each id.
 pub type Flags = [bool; 256];
 
-// The later of two times.
-fn later_of(a: u64, b: u64) -> u64
-    ensures { λ r. ⌜ r ≡ max a b ⌝ }
-{
-    if a < b { b } else { a }
-}
-
 // How long ago `seen` was, 0 if `now` is earlier.
 fn age(seen: u64, now: u64) -> u64
     ensures { λ r. ⌜ r ≡ ageAt seen now ⌝ }
@@ -112,7 +106,7 @@ impl Row {
     {
         self.state = ALIVE;
         self.incarnation = incarnation;
-        self.last_seen = later_of(self.last_seen, now);
+        self.last_seen = later(self.last_seen, now);
         self
     }
 
@@ -123,7 +117,7 @@ impl Row {
             self.incarnation = incarnation;
             self.state = state;
             if state == ALIVE {
-                self.last_seen = later_of(self.last_seen, now);
+                self.last_seen = later(self.last_seen, now);
             }
             return self;
         }
@@ -385,15 +379,6 @@ impl PeerTable {
             return self.refused(Refusal::BadArgument);
         }
         self.ticked(now).done()
-    }
-
-    // Whether a row of this id is admitted.
-    pub fn admits(self, admission: Admission, id: u8) -> bool
-        ensures { λ r. ⌜ r ≡ admits admission self id ⌝ }
-    {
-        let flags = self.admitted(admission);
-        let at = id as usize;
-        flags[at]
     }
 
     // For each id, whether it is admitted.

@@ -9,7 +9,7 @@ const PLACE_LIMIT: u64 = 281_474_976_710_656;
 const VNODE_LIMIT: u64 = 64;
 
 // Whether the places are strictly ascending.
-pub fn is_ascending(ring: &[u64]) -> bool
+pub(crate) fn is_ascending(ring: &[u64]) -> bool
     ensures { λ r. ⌜ r ≡ ascending (now (ring .entry)) ⌝ }
 {
     let mut i = 0;
@@ -23,7 +23,7 @@ pub fn is_ascending(ring: &[u64]) -> bool
 }
 
 // Whether each place is below 2^48 and has a vnode below 64.
-pub fn all_in_range(ring: &[u64]) -> bool
+pub(crate) fn all_in_range(ring: &[u64]) -> bool
     ensures { λ r. ⌜ r ≡ inRange (now (ring .entry)) ⌝ }
 {
     let mut i = 0;

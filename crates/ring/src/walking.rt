@@ -11,13 +11,13 @@ ghost use Rattle.ring.specs.Owners.{badRequest};
 ghost use Rattle.ring.specs.Helpers.{turned, Walked};
 
 // The nodes that a walk has taken: the first `count` of `nodes`.
-pub struct Taken {
-    pub nodes: [u8; 3],
-    pub count: usize,
+pub(crate) struct Taken {
+    pub(crate) nodes: [u8; 3],
+    pub(crate) count: usize,
 }
 
 // Whether `count` is outside 1 to 3 or the peer table is not sound.
-pub fn bad_request(peers: PeerTable, count: u8) -> bool
+pub(crate) fn bad_request(peers: PeerTable, count: u8) -> bool
     ensures { λ r. ⌜ r ≡ badRequest peers count ⌝ }
 {
     if count < 1 {
@@ -30,7 +30,7 @@ pub fn bad_request(peers: PeerTable, count: u8) -> bool
 }
 
 // How many places stand before the first whose token is at or above the position.
-pub fn start(ring: &[u64], position: u32) -> usize
+pub(crate) fn start(ring: &[u64], position: u32) -> usize
     ensures { λ r. ⌜ r ≡ length (before position (now (ring .entry))) ⌝ }
 {
     let mut i = 0;
@@ -57,7 +57,7 @@ fn place_at(ring: &[u64], start: usize, j: usize) -> u64
 }
 
 // The first `r` flagged nodes from the place at `start` on and round, each the first time it is met: its flag is cleared then.
-pub fn walk(ring: &[u64], start: usize, flags: Flags, r: usize) -> Taken
+pub(crate) fn walk(ring: &[u64], start: usize, flags: Flags, r: usize) -> Taken
     requires { ⌜ (start ≤ length (now ring)) × (r ≤ 3) ⌝ }
     ensures { λ t. ⌜ Walked flags start r (now (ring .entry)) (t .nodes) (t .count) ⌝ }
 {
@@ -78,7 +78,7 @@ pub fn walk(ring: &[u64], start: usize, flags: Flags, r: usize) -> Taken
 }
 
 // Writes the nodes taken to the front of `out`.
-pub fn put(out: &mut [u8], t: Taken)
+pub(crate) fn put(out: &mut [u8], t: Taken)
     requires { ⌜ (t .count ≤ length (now out)) × (t .count ≤ 3) × (length (t .nodes) ≡ 3) ⌝ }
     ensures { λ _. ⌜ now (out .exit) ≡ take (t .count) (t .nodes) ++ drop (t .count) (now (out .entry)) ⌝ }
 {

@@ -4,13 +4,13 @@ use Rattle.peers.proofs.Rows.{changed, reported-alive, reported-higher,
 use Rattle.peers.proofs.Row.reported.Statement.{statement}
 use Rattle.peers.proofs.Row.reported.Tie as tie
 
-later-of-requires : tie.Need-later-of-requires
-later-of-requires c κs = search needs
+later-requires : tie.Need-later-requires
+later-requires c κs = search needs
 
 returns : tie.Need-returns
 returns c =
     let a = c .before .before .before .before .args in
-    ap (changed (a .self) (a .state) (a .incarnation)) (c .later-of .ensures)
+    ap (changed (a .self) (a .state) (a .incarnation)) (c .later .ensures)
     ∙ reported-alive (a .self) (a .state) (a .incarnation) (a .now) (c .before .before .if1 .taken) (c .before .if2 .taken)
 
 returns-2 : tie.Need-returns-2
@@ -23,4 +23,4 @@ returns-4 : tie.Need-returns-4
 returns-4 c = let a = c .before .before .before .before .args in reported-held (a .self) (a .state) (a .incarnation) (a .now) (c .before .before .if1 .left) (c .if3 .left)
 
 pub reported-spec : {M : Type 1} → statement M
-reported-spec = tie.close (tie.spec later-of-requires returns returns-2 returns-3 returns-4)
+reported-spec = tie.close (tie.spec later-requires returns returns-2 returns-3 returns-4)
