@@ -8,6 +8,7 @@ use lib.Dec.{ltb, leb}
 use borrow.Author.Tests.{lt-ltb, le-ltb, le-leb, lt-leb}
 use Rattle.wire.proofs.Tests.{test}
 use Rattle.entry.specs.Entry.{badTime}
+use Rattle.entry.specs.Refusal as entry
 use Rattle.clock.specs.declared.Clock.{Clock}
 use Rattle.clock.specs.Clock.{Stepped, next, refused, raise, withSkew, sendStep, receiveInRange, receiveStep}
 
@@ -65,7 +66,7 @@ module _ (c : Clock) (p l now : ℕ) where
 -- ---- every refusal has its number
 abbrev pub Numbered : Stepped → Type 0
 Numbered (next d) = Unit {0}
-Numbered (refused n) = (0 < n) × (n ≤ 17)
+Numbered (refused n) = entry.Numbered n
 
 raise-numbered : (c : Clock) (p l : ℕ) → Numbered (raise c p l)
 unfolding raise

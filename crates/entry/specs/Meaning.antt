@@ -1,10 +1,16 @@
--- What the orders mean.
+-- What the refusal numbers and the orders mean.
 use Prim.Native.Nat.{_<_}
 use mathlib.Core.Path.{_≡_}
 use mathlib.Core.Logic.{_⊎_, _↔_}
 use mathlib.Core.Bool.{Bool, true, false}
+use Rattle.entry.specs.declared.Refusal.{Refusal}
 use Rattle.entry.specs.declared.Stamp.{Stamp}
+use Rattle.entry.specs.Refusal.{number, Numbered}
 use Rattle.entry.specs.Order.{least, stampBelow, keyBelow}
+
+-- every refusal has a number from 1 to the last
+abbrev pub NumberRange : Type 0
+NumberRange = (r : Refusal) → Numbered (number r)
 
 -- a strict total order
 pub record StrictTotal {A : Type 0} (below : A → A → Bool) : Type 0 where

@@ -1,24 +1,31 @@
--- The refusal numbers.
-use Prim.Native.Nat.{ℕ}
+-- The refusal numbers. The rules' SELF is `OwnPeer` here.
+use Prim.Native.Nat.{ℕ, _≤_, _<_}
 use Rattle.entry.specs.declared.Refusal.{Refusal}
-use Rattle.entry.specs.declared.Refusal.the-variants.{BadKey, ValueTooLarge, BadFrame, NoRoom, BadStore, StoreFull, Overtaken, ClockSpent, BadTime, TooFew, UnknownPeer, Stale, TableFull, PeerKnown, OwnPeer, BadRing, BadArgument}
+use Rattle.entry.specs.declared.Refusal.the-variants as refusal
 
 abbrev pub number : Refusal → ℕ
-number BadKey = 1
-number ValueTooLarge = 2
-number BadFrame = 3
-number NoRoom = 4
-number BadStore = 5
-number StoreFull = 6
-number Overtaken = 7
-number ClockSpent = 8
-number BadTime = 9
-number TooFew = 10
-number UnknownPeer = 11
-number Stale = 12
-number TableFull = 13
-number PeerKnown = 14
--- SELF in the rules
-number OwnPeer = 15
-number BadRing = 16
-number BadArgument = 17
+number refusal.BadKey = 1
+number refusal.ValueTooLarge = 2
+number refusal.BadFrame = 3
+number refusal.NoRoom = 4
+number refusal.BadStore = 5
+number refusal.StoreFull = 6
+number refusal.Overtaken = 7
+number refusal.ClockSpent = 8
+number refusal.BadTime = 9
+number refusal.TooFew = 10
+number refusal.UnknownPeer = 11
+number refusal.Stale = 12
+number refusal.TableFull = 13
+number refusal.PeerKnown = 14
+number refusal.OwnPeer = 15
+number refusal.BadRing = 16
+number refusal.BadArgument = 17
+
+-- the highest of them
+abbrev pub lastNumber : ℕ
+lastNumber = 17
+
+-- from 1 to the last
+abbrev pub Numbered : ℕ → Type 0
+Numbered n = (0 < n) × (n ≤ lastNumber)

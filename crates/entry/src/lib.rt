@@ -20,7 +20,7 @@ pub const ACTIVE: u8 = 0;
 
 pub const TOMBSTONE: u8 = 1;
 
-// Why a call is refused, a case for each number.
+// Why a call is refused: a case for each number, in the order of the numbers.
 pub enum Refusal {
     BadKey,
     ValueTooLarge,
