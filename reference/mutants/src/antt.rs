@@ -1,5 +1,6 @@
 //! The definitions of a file of `specs/`: names, clauses and the terms in them.
 
+use std::collections::{BTreeMap, BTreeSet};
 use std::ops::Range;
 
 /// A clause of a definition: the bytes right of its `=`.
@@ -97,4 +98,34 @@ pub fn definitions(text: &str) -> Definitions {
 /// Each word of a text.
 pub fn words(text: &str, atoms: &[Atom]) -> Vec<String> {
     atoms.iter().map(|a| text[a.at..a.end].to_string()).collect()
+}
+
+/// The words that each declaration of some proofs is made of, by its name.
+pub type Laws = BTreeMap<String, BTreeSet<String>>;
+
+/// Adds the declarations of a file of `proofs/`, those inside sections too.
+pub fn add_laws(laws: &mut Laws, text: &str) {
+    let mut name = String::new();
+    for line in text.lines() {
+        let mut words = line.split_whitespace().skip_while(|w| matches!(*w, "pub" | "abbrev" | "unfoldable"));
+        if let (Some(first), Some(":")) = (words.next(), words.next()) {
+            name = first.to_string();
+        }
+        let own = laws.entry(name.clone()).or_default();
+        own.extend(line.split(|c: char| c.is_whitespace() || "(){};,".contains(c)).map(str::to_string));
+    }
+}
+
+/// Whether a theorem's proof is made of a law, by itself or through other laws.
+pub fn is_made_of(laws: &Laws, theorem: &str, law: &str) -> bool {
+    let mut seen = BTreeSet::from([theorem]);
+    let mut open = vec![theorem];
+    while let Some(name) = open.pop() {
+        if name == law {
+            return true;
+        }
+        let more = laws.get(name).into_iter().flatten().filter(|word| laws.contains_key(*word));
+        open.extend(more.map(String::as_str).filter(|word| seen.insert(word)));
+    }
+    false
 }

@@ -7,8 +7,9 @@
 //! expect: the function, or the theorem, that is then not proved for a fact of its own
 //! ```
 
+use crate::antt::Laws;
 use crate::group::Body;
-use crate::log::{Log, Standing, Verdict};
+use crate::log::{Log, Verdict};
 use std::collections::BTreeMap;
 
 #[derive(Clone, PartialEq, Eq, Debug)]
@@ -68,10 +69,10 @@ impl Edit {
     }
 
     /// Whether what it names is not proved for a fact of its own.
-    pub fn is_met(&self, log: &Log) -> bool {
-        match log.standing(&self.expect) {
-            Some(standing) => standing == Standing::Refused && log.verdict == Verdict::Fact,
-            None => log.theorem_refused(&self.expect),
+    pub fn is_met(&self, log: &Log, laws: &Laws) -> bool {
+        match log.verdict_on(&self.expect) {
+            Some(verdict) => verdict == Verdict::Fact,
+            None => log.standing(&self.expect).is_none() && log.theorem_refused(&self.expect, laws),
         }
     }
 

@@ -1,5 +1,6 @@
 //! What a check said.
 
+use crate::antt::{is_made_of, Laws};
 use std::collections::BTreeMap;
 
 /// An error: where it stands, the declaration that it is about, and what it says.
@@ -82,25 +83,10 @@ impl Log {
     }
 
     /// Whether a theorem is refused and the first error of all stands in its proof, or in a law that it is made of.
-    pub fn theorem_refused(&self, theorem: &str) -> bool {
-        let Some(first) = self.faults.first() else { return false };
-        let mut name = theorem.to_string();
-        for _ in 0..self.faults.len() {
-            let Some(fault) = self.faults.iter().find(|f| f.declaration == name) else { return false };
-            if fault.declaration == first.declaration {
-                return true;
-            }
-            let Some(cause) = cause(&fault.says) else { return false };
-            name = cause;
-        }
-        false
+    pub fn theorem_refused(&self, theorem: &str, laws: &Laws) -> bool {
+        let refused = self.faults.iter().any(|fault| fault.declaration == theorem);
+        refused && self.faults.first().is_some_and(|first| is_made_of(laws, theorem, &first.declaration))
     }
-}
-
-/// The declaration that was not admitted, in an error that only passes on another.
-fn cause(says: &str) -> Option<String> {
-    let (before, _) = says.split_once("` was not admitted")?;
-    Some(before.rsplit('`').next()?.to_string())
 }
 
 fn fault(line: &str) -> Option<Fault> {

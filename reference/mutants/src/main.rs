@@ -1,6 +1,7 @@
 //! `mutants run` tries mutants of the proved crates; `mutants edits` tries the hand-written wrong answers.
 
 use model::rng::Rng;
+use mutants::antt::{add_laws, Laws};
 use mutants::change::{Change, Part};
 use mutants::code::{self, Declared};
 use mutants::definitions;
@@ -305,68 +306,90 @@ impl Progress {
     }
 }
 
-fn edits(options: &Options, check: bool) -> Result<bool, String> {
-    let (repository, crates) = open(options)?;
-    let mut good = true;
-    let mut groups: Vec<(Vec<Edit>, Files)> = Vec::new();
-    for name in &crates {
-        let files = files_of(&repository, name).map_err(|e| format!("{name}: {e}"))?;
-        let all = edits_of(&repository, name)?;
-        good &= enough(&repository, name, &all)?;
-        let wanted = |edit: &Edit| options.edits.is_empty() || options.edits.contains(&edit.label);
-        let chosen: Vec<Edit> = all.into_iter().filter(wanted).collect();
-        let bodies = bodies(&files);
-        let places: Vec<_> = chosen.iter().map(|edit| edit.place(&bodies)).collect();
-        for group in grouped(&places, &bodies) {
-            groups.push((group.into_iter().map(|i| chosen[i].clone()).collect(), files.clone()));
+/// Edits of one crate that share a check, with what is asked of it.
+struct Group<'a> {
+    edits: Vec<Edit>,
+    of: &'a Crate,
+}
+
+/// A crate's files, with the laws of its proofs.
+struct Crate {
+    name: String,
+    files: Files,
+    laws: Laws,
+    edits: Vec<Edit>,
+}
+
+impl Crate {
+    fn read(repository: &Repository, name: &str) -> Result<Crate, String> {
+        let failed = |e: std::io::Error| format!("{name}: {e}");
+        let mut laws = Laws::new();
+        for (_, text) in repository.files(name, "proofs", "antt").map_err(failed)? {
+            add_laws(&mut laws, &text);
         }
+        let files = files_of(repository, name).map_err(failed)?;
+        Ok(Crate { name: name.to_string(), files, laws, edits: edits_of(repository, name)? })
     }
-    let count: usize = groups.iter().map(|(group, _)| group.len()).sum();
+
+    fn groups(&self, wanted: &[String]) -> Vec<Group<'_>> {
+        let chosen = self.edits.iter().filter(|e| wanted.is_empty() || wanted.contains(&e.label));
+        let chosen: Vec<&Edit> = chosen.collect();
+        let bodies = bodies(&self.files);
+        let places: Vec<_> = chosen.iter().map(|edit| edit.place(&bodies)).collect();
+        let groups = grouped(&places, &bodies).into_iter();
+        groups.map(|group| Group { edits: group.iter().map(|&i| chosen[i].clone()).collect(), of: self }).collect()
+    }
+}
+
+fn edits(options: &Options, check: bool) -> Result<bool, String> {
+    let (repository, names) = open(options)?;
+    let crates: Result<Vec<Crate>, String> = names.iter().map(|name| Crate::read(&repository, name)).collect();
+    let crates = crates?;
+    let mut good = true;
+    for one in &crates {
+        good &= enough(&repository, &one.name, &one.edits)?;
+    }
+    let groups: Vec<Group> = crates.iter().flat_map(|one| one.groups(&options.edits)).collect();
+    let count: usize = groups.iter().map(|group| group.edits.len()).sum();
     println!("{count} wrong answers in {} checks", groups.len());
     if !check || count == 0 {
         return Ok(good);
     }
-    let used: Vec<String> = crates.into_iter().filter(|n| groups.iter().any(|(g, _)| g[0].name == *n)).collect();
+    let used: Vec<String> = names.into_iter().filter(|n| groups.iter().any(|g| g.of.name == *n)).collect();
     let mut pool = Pool::new(&repository, &used, options.jobs)?;
-    let alone = try_edits(&mut pool, groups, true)?;
-    let failed = try_edits(&mut pool, alone, false)?;
-    let failures: usize = failed.iter().map(|(group, _)| group.len()).sum();
+    let (mut failures, alone) = try_edits(&mut pool, groups)?;
+    failures += try_edits(&mut pool, alone)?.0;
     println!("wrong answers: {} refused, {failures} not", count - failures);
     Ok(good && failures == 0)
 }
 
-/// Tries each group as one check. What is not met is handed back, each edit by itself.
-fn try_edits(
-    pool: &mut Pool,
-    groups: Vec<(Vec<Edit>, Files)>,
-    retry: bool,
-) -> Result<Vec<(Vec<Edit>, Files)>, String> {
+/// Tries each group as one check: how many edits failed alone, and those of a group that it did not settle.
+fn try_edits<'a>(pool: &mut Pool, groups: Vec<Group<'a>>) -> Result<(usize, Vec<Group<'a>>), String> {
     let mut jobs = Vec::new();
-    for (group, files) in &groups {
-        let mut changed = files.clone();
-        for edit in group {
+    for group in &groups {
+        let mut changed = group.of.files.clone();
+        for edit in &group.edits {
             edit.apply(&mut changed).map_err(|e| format!("{}/{}: {e}", edit.name, edit.label))?;
         }
-        changed.retain(|file, text| files[file] != *text);
-        jobs.push(Job { name: group[0].name.clone(), changed: changed.into_iter().collect() });
+        changed.retain(|file, text| group.of.files[file] != *text);
+        jobs.push(Job { name: group.of.name.clone(), changed: changed.into_iter().collect() });
     }
     let progress = Progress::new(jobs.len());
     let logs = pool.check(jobs, |_, _| progress.step(None));
-    let mut left = Vec::new();
-    for ((group, files), log) in groups.into_iter().zip(logs) {
-        let log = log.map_err(|e| format!("{}: {e}", group[0].name))?;
-        let shared = retry && group.len() > 1;
-        for edit in group {
-            if edit.is_met(&log) {
-                continue;
-            }
-            if !shared {
+    let (mut failures, mut left) = (0, Vec::new());
+    for (group, log) in groups.into_iter().zip(logs) {
+        let log = log.map_err(|e| format!("{}: {e}", group.of.name))?;
+        let shared = group.edits.len() > 1;
+        for edit in group.edits.into_iter().filter(|edit| !edit.is_met(&log, &group.of.laws)) {
+            if shared {
+                left.push(Group { edits: vec![edit], of: group.of });
+            } else {
                 println!("NOT AS EXPECTED  {}", complaint(&edit, &log));
+                failures += 1;
             }
-            left.push((vec![edit], files.clone()));
         }
     }
-    Ok(left)
+    Ok((failures, left))
 }
 
 fn complaint(edit: &Edit, log: &Log) -> String {

@@ -1,5 +1,6 @@
 //! How the output of a check is read, and what an edit asks of it.
 
+use mutants::antt::{add_laws, Laws};
 use mutants::edit::{Edit, Files};
 use mutants::group::{bodies, grouped};
 use mutants::log::{Log, Standing, Verdict};
@@ -31,8 +32,11 @@ fn each_function_has_its_standing() {
 #[test]
 fn a_theorem_falls_with_a_law_it_is_made_of() {
     let log = Log::read(LOG, true);
-    assert!(log.theorem_refused("round-trip") && log.theorem_refused("length-back"));
-    assert!(!log.theorem_refused("read-spec") && !log.theorem_refused("another"));
+    let mut laws = Laws::new();
+    add_laws(&mut laws, "pub length-back : A\nlength-back = refl\npub round-trip : B\nround-trip = (length-back x)\n");
+    add_laws(&mut laws, "module _ where\n  read-spec : C\n  read-spec = close\n");
+    assert!(log.theorem_refused("round-trip", &laws) && log.theorem_refused("length-back", &laws));
+    assert!(!log.theorem_refused("read-spec", &laws) && !log.theorem_refused("another", &laws));
 }
 
 #[test]
