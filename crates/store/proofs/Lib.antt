@@ -4,8 +4,5 @@ pub mod Seeking
 pub mod Shifts
 pub mod Splices
 pub mod OnSound
-pub mod Best
-pub mod BookLaws
 pub mod Keeping
 pub mod Ways
-pub mod History

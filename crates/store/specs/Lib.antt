@@ -6,5 +6,3 @@ pub mod Offer
 pub mod Merge
 pub mod Unchecked
 pub mod Kept
-pub mod Book
-pub mod History

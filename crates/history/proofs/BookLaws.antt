@@ -10,10 +10,10 @@ use lib.Dec.{ltb, eqb}
 use borrow.Author.Tests.{ltb-false, le-ltb, eqb-true, eq-eqb}
 use Rattle.wire.proofs.Tests.{test, clash}
 use Rattle.entry.specs.Entry.{Entry, Acceptable, refusalOf}
 use Rattle.store.specs.Held.{_∈_}
 use Rattle.store.specs.Answer.{Answer, isRefused}
-use Rattle.store.specs.Book.{Call, offer, merge, hasKey, keyCount, beatsAll, bookOffer, bookOffered, bookMerge, bookMerged, Book, delivered, bookAnswer, bookAfter, bookAnswers, offers, InRange}
-use Rattle.store.proofs.Best.{Within, keyCount-mono}
+use Rattle.history.specs.Book.{Call, offer, merge, hasKey, keyCount, beatsAll, bookOffer, bookOffered, bookMerge, bookMerged, Book, delivered, bookAnswer, bookAfter, bookAnswers, offers, InRange}
+use Rattle.history.proofs.Best.{Within, keyCount-mono}
 
 -- what the book accepts
 pub offer-accepted : (C : ℕ) (ds : List Entry) (e : Entry) → isRefused (bookOffer C ds e) ≡ false → Acceptable e × (keyCount (e ∷ ds) ≤ C)

@@ -11,10 +11,10 @@ use Rattle.wire.proofs.Tests.{test, clash}
 use Rattle.wire.proofs.Order.{sameBytes-eq, sameBytes-refl}
 use Rattle.entry.specs.Entry.{Entry, Consistent, beats}
 use Rattle.entry.proofs.Order.{beats-asym, beats-weak, beats-tied}
 use Rattle.store.specs.Held.{_∈_, put, putAll, find}
 use Rattle.store.specs.Unchecked.{isHeld}
-use Rattle.store.specs.Book.{hasKey, keyCount, beatsAll, Greatest}
+use Rattle.history.specs.Book.{hasKey, keyCount, beatsAll, Greatest}
 use Rattle.store.proofs.HeldLaws.{Ascending, beats-irrefl, beats-trans, put-ascending, putAll-ascending, better, join, find-put, find-putAll, find-mem, find-some, same-find, length-put, length-mono, some-of}
 
 -- the entries held after those of a list were offered, the last first
 unfoldable pub held : List Entry → List Entry

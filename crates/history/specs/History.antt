@@ -13,14 +13,14 @@ use Rattle.entry.specs.Key.{badKey}
 use Rattle.entry.specs.Order.{stampBelow}
 use Rattle.entry.specs.Entry.{Entry, Acceptable, Consistent}
 use Rattle.image.specs.Image.{image, entriesOf, ascending}
 use Rattle.store.specs.Held.{_∈_}
 use Rattle.store.specs.Answer.{Answer, isRefused}
 use Rattle.store.specs.Create.{freshStore}
 use Rattle.store.specs.Lookup.{lookupAnswer, valuePart, value, deleted, never}
 use Rattle.store.specs.Offer.{offerAnswer, afterOffer}
 use Rattle.store.specs.Merge.{mergeAnswer, afterMerge}
 use Rattle.store.specs.Kept.{Representable}
-use Rattle.store.specs.Book.{Call, offer, merge, Book, delivered, hasKey, keyCount, Greatest, runBook, bookAnswers, offers, InRange}
+use Rattle.history.specs.Book.{Call, offer, merge, Book, delivered, hasKey, keyCount, Greatest, runBook, bookAnswers, offers, InRange}
 
 -- the bytes of each store
 abbrev pub Stores : Type 0

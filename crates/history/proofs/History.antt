@@ -17,20 +17,20 @@ use Rattle.entry.proofs.Accept.{accepted}
 use Rattle.image.specs.Image.{image, slotsOf, entriesOf, sound}
 use Rattle.image.proofs.SlotLaws.{Fit, fits}
 use Rattle.image.proofs.ImageLaws.{sound-image, slots-of-image, entries-of-image}
 use Rattle.store.specs.Held.{_∈_, find}
 use Rattle.store.specs.Answer.{stored, replaced, kept, isRefused}
 use Rattle.store.specs.Create.{freshStore}
 use Rattle.store.specs.Lookup.{findingFor, valueFor, lookupAnswer, valuePart, value, deleted, never}
 use Rattle.store.specs.Offer.{told, offerAnswer, afterOffer}
 use Rattle.store.specs.Merge.{mergeAnswer, afterMerge}
 use Rattle.store.specs.Unchecked.{isHeld}
 use Rattle.store.specs.Kept.{Representable}
-use Rattle.store.specs.Book.{Call, offer, merge, hasKey, keyCount, beatsAll, Greatest, bookOffer, bookOffered, bookMerge, bookMerged, Book, delivered, bookAnswer, bookAfter, runBook, bookAnswers, offers, InRange}
-use Rattle.store.specs.History.{Stores, store, answer, after, run, answers, fresh, noneDelivered, setAfter, DeliveryHistory, EveryDeliveryHistory}
+use Rattle.history.specs.Book.{Call, offer, merge, hasKey, keyCount, beatsAll, Greatest, bookOffer, bookOffered, bookMerge, bookMerged, Book, delivered, bookAnswer, bookAfter, runBook, bookAnswers, offers, InRange}
+use Rattle.history.specs.History.{Stores, store, answer, after, run, answers, fresh, noneDelivered, setAfter, DeliveryHistory, EveryDeliveryHistory}
 use Rattle.store.proofs.HeldLaws.{beats-stamp, none-of}
 use Rattle.store.proofs.Members.{accept-all, fit-all, ascend}
-use Rattle.store.proofs.Best.{held, best, beatsBest, AllConsistent, Within, held-ascending, find-held, held-append, hasKey-best, keyCount-held, beatsAll-best, greatest-best, held-greatest, held-mem, held-same, held-key, held-grows}
-use Rattle.store.proofs.BookLaws.{offer-accepted, merge-accepted, range-tail, offers-tail, range-append, offers-append, within-cons, within-append, none-within, book-grows, book-accepts}
+use Rattle.history.proofs.Best.{held, best, beatsBest, AllConsistent, Within, held-ascending, find-held, held-append, hasKey-best, keyCount-held, beatsAll-best, greatest-best, held-greatest, held-mem, held-same, held-key, held-grows}
+use Rattle.history.proofs.BookLaws.{offer-accepted, merge-accepted, range-tail, offers-tail, range-append, offers-append, within-cons, within-append, none-within, book-grows, book-accepts}
 
 -- what the store tells of a success is what the book tells
 told-book : (e : Entry) (ds : List Entry)
