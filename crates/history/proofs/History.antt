@@ -14,6 +14,7 @@ use Rattle.wire.proofs.Tests.{test}
 use Rattle.entry.specs.Key.{badKey}
 use Rattle.entry.specs.Entry.{Entry, Acceptable, Consistent}
 use Rattle.entry.proofs.Accept.{accepted}
+use Rattle.image.specs.Layout.{mostSlots}
 use Rattle.image.specs.Image.{image, slotsOf, entriesOf, sound}
 use Rattle.image.proofs.SlotLaws.{Fit, fits}
 use Rattle.image.proofs.ImageLaws.{sound-image, slots-of-image, entries-of-image}
@@ -43,7 +44,7 @@ told-book e ds = rw (find-held (e .key) ds, hasKey-best (e .key) ds, beatsAll-be
     go (some h) = refl
 
 -- over some entries that hold all those offered
-module _ (C n : ℕ) (lo : 1 ≤ C) (hi : C ≤ 100) (all : List Entry)
+module _ (C n : ℕ) (lo : 1 ≤ C) (hi : C ≤ mostSlots) (all : List Entry)
     (rep : (e : Entry) → e ∈ all → Representable e)
     (con : (d e : Entry) → d ∈ all → e ∈ all → Acceptable d → Acceptable e → Consistent d e) where
   -- a store is the image of what is held of its set

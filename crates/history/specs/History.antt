@@ -12,6 +12,7 @@ use lib.Dec.{eqb}
 use Rattle.entry.specs.Key.{badKey}
 use Rattle.entry.specs.Order.{stampBelow}
 use Rattle.entry.specs.Entry.{Entry, Acceptable, Consistent}
+use Rattle.image.specs.Layout.{mostSlots}
 use Rattle.image.specs.Image.{image, entriesOf, ascending}
 use Rattle.store.specs.Held.{_∈_}
 use Rattle.store.specs.Answer.{Answer, isRefused}
@@ -98,5 +99,5 @@ ConsistentOffers calls = (d e : Entry) → d ∈ offers calls → e ∈ offers c
 
 -- demand 3, the delivery history: for every slot count, every number of stores and every list of calls
 abbrev pub EveryDeliveryHistory : Type 0
-EveryDeliveryHistory = (C n : ℕ) (calls : List Call) → 1 ≤ C → C ≤ 100 → InRange n calls
+EveryDeliveryHistory = (C n : ℕ) (calls : List Call) → 1 ≤ C → C ≤ mostSlots → InRange n calls
     → RepresentableOffers calls → ConsistentOffers calls → DeliveryHistory C n calls

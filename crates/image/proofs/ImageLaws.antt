@@ -7,7 +7,7 @@ use native.Mathlib.Omega.{arith}
 use native.Mathlib.Nat.{le-of-suc-le-suc, not-suc-le-zero}
 use lib.ListN.{length, take, drop, length-append}
 use lib.Seq.{take-at, drop-at, drop-drop}
-use borrow.Author.Tests.{eqb-true, leb-true, le-leb}
+use borrow.Author.Tests.{eqb-true, eq-eqb, leb-true, le-leb}
 use Rattle.wire.specs.Number.{be}
 use Rattle.wire.specs.Fill.{zeros, field}
 use Rattle.wire.proofs.Tests.{and-true}
@@ -15,15 +15,16 @@ use Rattle.wire.proofs.Number.{length-be, num-be}
 use Rattle.wire.proofs.Fill.{length-zeros, field-here, field-past}
 use Rattle.wire.proofs.Order.{sameBytes-eq, sameBytes-refl}
 use Rattle.entry.specs.Entry.{Entry}
+use Rattle.image.specs.Layout.{headerWidth, slotWidth, mostSlots, slotStart}
 use Rattle.image.specs.Image.{slotBytes, slots, header, image, slotEntry, entriesIn, slotsOf, usedOf, entriesOf, acceptable, allAcceptable, ascending, sound}
-use Rattle.image.specs.Slot.{slotAt}
+use Rattle.image.specs.Slot.{slotAt, headerWith}
 use Rattle.image.proofs.SlotLaws.{length-slot, Fit, slot-entry, fit-of}
 
 abbrev pub AllFit : List Entry → Type 0
 AllFit [] = Unit {0}
 AllFit (e ∷ es) = Fit e × AllFit es
 
-pub length-slots : (es : List Entry) → length (slots es) ≡ 596 * length es
+pub length-slots : (es : List Entry) → length (slots es) ≡ slotWidth * length es
 unfolding slots
 length-slots [] = refl
 length-slots (e ∷ es) = length-append (slotBytes e) (slots es) ∙ omega (arith, length-slot e, length-slots es)
@@ -33,20 +34,25 @@ unfolding slots
 slots-append [] ys = refl
 slots-append (e ∷ xs) ys = ap (λ (r : List ℕ). slotBytes e ++ r) (slots-append xs ys) ∙ sym (append-assoc (slotBytes e) (slots xs) (slots ys))
 
-pub length-header : (c u : ℕ) → length (header c u) ≡ 16
+pub length-header : (c u : ℕ) → length (header c u) ≡ headerWidth
 unfolding header
 length-header c u = simp (length-append, length-be, length-zeros)
 
-pub length-image : (c : ℕ) (es : List Entry) → length es ≤ c → length (image c es) ≡ 16 + 596 * c
+-- a header written over its bytes
+pub header-with : (c u : ℕ) (s : List ℕ) → length s ≡ headerWidth → headerWith c u s ≡ header c u
+unfolding headerWith
+header-with c u s h = rw (eq-eqb (length s) headerWidth h)
+
+pub length-image : (c : ℕ) (es : List Entry) → length es ≤ c → length (image c es) ≡ slotStart c
 unfolding image
 length-image c es h = simp (length-append, length-header, length-slots, length-zeros) (omega arith)
 
 -- bracketed to the right
-pub flat-header : (c u : ℕ) (r : List ℕ) → header c u ++ r ≡ be 2 c ++ (be 2 u ++ (be 2 596 ++ (be 2 16 ++ (zeros 8 ++ r))))
+pub flat-header : (c u : ℕ) (r : List ℕ) → header c u ++ r ≡ be 2 c ++ (be 2 u ++ (be 2 slotWidth ++ (be 2 headerWidth ++ (zeros 8 ++ r))))
 unfolding header
 flat-header c u r = simp append-assoc
 
-pub flat-image : (c : ℕ) (es : List Entry) → image c es ≡ header c (length es) ++ (slots es ++ zeros (596 * (c - length es)))
+pub flat-image : (c : ℕ) (es : List Entry) → image c es ≡ header c (length es) ++ (slots es ++ zeros (slotWidth * (c - length es)))
 unfolding image
 flat-image c es = simp append-assoc
 
@@ -61,13 +67,13 @@ used-of-image c es h =
     rw (flat-image, flat-header, field-past 2 0 2 (be 2 c) _ (length-be 2 c), field-here 2 (be 2 (length es)) _ (length-be 2 _)) (num-be 2 (length es) h)
 
 module _ (e : Entry) (es : List Entry) (r : List ℕ) where
-  pub first-slot : take 596 (slots (e ∷ es) ++ r) ≡ slotBytes e
+  pub first-slot : take slotWidth (slots (e ∷ es) ++ r) ≡ slotBytes e
   unfolding slots
-  first-slot = ap (take 596) (append-assoc (slotBytes e) (slots es) r) ∙ take-at (slotBytes e) (slots es ++ r) 596 (length-slot e)
+  first-slot = ap (take slotWidth) (append-assoc (slotBytes e) (slots es) r) ∙ take-at (slotBytes e) (slots es ++ r) slotWidth (length-slot e)
 
-  pub other-slots : drop 596 (slots (e ∷ es) ++ r) ≡ slots es ++ r
+  pub other-slots : drop slotWidth (slots (e ∷ es) ++ r) ≡ slots es ++ r
   unfolding slots
-  other-slots = ap (drop 596) (append-assoc (slotBytes e) (slots es) r) ∙ drop-at (slotBytes e) (slots es ++ r) 596 (length-slot e)
+  other-slots = ap (drop slotWidth) (append-assoc (slotBytes e) (slots es) r) ∙ drop-at (slotBytes e) (slots es ++ r) slotWidth (length-slot e)
 
 entries-in : (es : List Entry) (r : List ℕ) → AllFit es → entriesIn (length es) (slots es ++ r) ≡ es
 unfolding entriesIn
@@ -79,41 +85,41 @@ entries-in (e ∷ es) r f =
 pub entries-of-image : (c : ℕ) (es : List Entry) → AllFit es → length es < 65536 → entriesOf (image c es) ≡ es
 unfolding entriesOf
 entries-of-image c es f h =
-    ap₂ entriesIn (used-of-image c es h) (ap (drop 16) (flat-image c es) ∙ drop-at (header c (length es)) _ 16 (length-header c (length es)))
+    ap₂ entriesIn (used-of-image c es h) (ap (drop headerWidth) (flat-image c es) ∙ drop-at (header c (length es)) _ headerWidth (length-header c (length es)))
     ∙ entries-in es _ f
 
 -- ---- the used slots of any bytes
 pub length-entries-in : (n : ℕ) (s : List ℕ) → length (entriesIn n s) ≡ n
 unfolding entriesIn
 length-entries-in zero s = refl
-length-entries-in (suc n) s = ap suc (length-entries-in n (drop 596 s))
+length-entries-in (suc n) s = ap suc (length-entries-in n (drop slotWidth s))
 
 pub used-is : (s : List ℕ) → length (entriesOf s) ≡ usedOf s
 unfolding entriesOf
-used-is s = length-entries-in (usedOf s) (drop 16 s)
+used-is s = length-entries-in (usedOf s) (drop headerWidth s)
 
-pub next-slot : (i : ℕ) → 596 + 596 * i ≡ 596 * suc i
+pub next-slot : (i : ℕ) → slotWidth + slotWidth * i ≡ slotWidth * suc i
 next-slot i = omega arith
 
-entry-in : (i n : ℕ) (t : List ℕ) → i < n → drop i (entriesIn n t) ≡ slotEntry (field (596 * i) 596 t) ∷ drop (suc i) (entriesIn n t)
+entry-in : (i n : ℕ) (t : List ℕ) → i < n → drop i (entriesIn n t) ≡ slotEntry (field (slotWidth * i) slotWidth t) ∷ drop (suc i) (entriesIn n t)
 unfolding entriesIn field
 entry-in i zero t h = absurd (not-suc-le-zero h)
 entry-in zero (suc n) t h = refl
 entry-in (suc i) (suc n) t h =
-    entry-in i n (drop 596 t) (le-of-suc-le-suc h)
-    ∙ ap (λ (l : List ℕ). slotEntry (take 596 l) ∷ drop (suc i) (entriesIn n (drop 596 t))) (drop-drop (596 * i) 596 t ∙ ap (λ (m : ℕ). drop m t) (next-slot i))
+    entry-in i n (drop slotWidth t) (le-of-suc-le-suc h)
+    ∙ ap (λ (l : List ℕ). slotEntry (take slotWidth l) ∷ drop (suc i) (entriesIn n (drop slotWidth t))) (drop-drop (slotWidth * i) slotWidth t ∙ ap (λ (m : ℕ). drop m t) (next-slot i))
 
 -- entry i is that of slot i
 pub entry-at : (i : ℕ) (s : List ℕ) → i < usedOf s → drop i (entriesOf s) ≡ slotEntry (slotAt i s) ∷ drop (suc i) (entriesOf s)
 unfolding entriesOf slotAt field
 entry-at i s h =
-    entry-in i (usedOf s) (drop 16 s) h
-    ∙ ap (λ (l : List ℕ). slotEntry (take 596 l) ∷ drop (suc i) (entriesIn (usedOf s) (drop 16 s))) (drop-drop (596 * i) 16 s)
+    entry-in i (usedOf s) (drop headerWidth s) h
+    ∙ ap (λ (l : List ℕ). slotEntry (take slotWidth l) ∷ drop (suc i) (entriesIn (usedOf s) (drop headerWidth s))) (drop-drop (slotWidth * i) headerWidth s)
 
 -- ---- a sound store
 pub record Sound (s : List ℕ) : Type 0 where
   pub some : 1 ≤ slotsOf s
-  pub most : slotsOf s ≤ 100
+  pub most : slotsOf s ≤ mostSlots
   pub room : usedOf s ≤ slotsOf s
   pub each : allAcceptable (entriesOf s) ≡ true
   pub order : ascending (entriesOf s) ≡ true
@@ -140,14 +146,14 @@ pub is-sound : (s : List ℕ) → Sound s → sound s ≡ true
 unfolding sound
 is-sound s k = rw (le-leb _ _ (k .some), le-leb _ _ (k .most), le-leb _ _ (k .room), k .each, k .order, ← k .bytes) (sameBytes-refl s)
 
-pub sound-image : (c : ℕ) (es : List Entry) → 1 ≤ c → c ≤ 100 → length es ≤ c → AllFit es → allAcceptable es ≡ true → ascending es ≡ true → sound (image c es) ≡ true
+pub sound-image : (c : ℕ) (es : List Entry) → 1 ≤ c → c ≤ mostSlots → length es ≤ c → AllFit es → allAcceptable es ≡ true → ascending es ≡ true → sound (image c es) ≡ true
 unfolding sound
 sound-image c es lo hi room f each order =
-    rw (slots-of-image c es (omega arith), used-of-image c es (omega arith), entries-of-image c es f (omega arith), le-leb 1 c lo, le-leb c 100 hi, le-leb (length es) c room, each, order, sameBytes-refl (image c es))
+    rw (slots-of-image c es (omega arith), used-of-image c es (omega arith), entries-of-image c es f (omega arith), le-leb 1 c lo, le-leb c mostSlots hi, le-leb (length es) c room, each, order, sameBytes-refl (image c es))
 
 -- past the header of a sound store
-pub past-header : (s : List ℕ) → Sound s → drop 16 s ≡ slots (entriesOf s) ++ zeros (596 * (slotsOf s - length (entriesOf s)))
-past-header s k = ap (drop 16) (k .bytes ∙ flat-image (slotsOf s) (entriesOf s)) ∙ drop-at (header (slotsOf s) (length (entriesOf s))) _ 16 (length-header (slotsOf s) (length (entriesOf s)))
+pub past-header : (s : List ℕ) → Sound s → drop headerWidth s ≡ slots (entriesOf s) ++ zeros (slotWidth * (slotsOf s - length (entriesOf s)))
+past-header s k = ap (drop headerWidth) (k .bytes ∙ flat-image (slotsOf s) (entriesOf s)) ∙ drop-at (header (slotsOf s) (length (entriesOf s))) _ headerWidth (length-header (slotsOf s) (length (entriesOf s)))
 
 heads : (a b : Entry) (r s : List Entry) → a ∷ r ≡ b ∷ s → (a ≡ b) × (r ≡ s)
 heads a b r s h = (cc, cc)
@@ -163,7 +169,7 @@ fits-in (e ∷ es) r a h =
 -- its entries fit: their numbers were read from fields
 pub sound-fits : (s : List ℕ) → Sound s → AllFit (entriesOf s)
 unfolding entriesOf
-sound-fits s k = fits-in (entriesOf s) (zeros (596 * (slotsOf s - length (entriesOf s)))) (k .each) (ap₂ entriesIn (used-is s) (sym (past-header s k)))
+sound-fits s k = fits-in (entriesOf s) (zeros (slotWidth * (slotsOf s - length (entriesOf s)))) (k .each) (ap₂ entriesIn (used-is s) (sym (past-header s k)))
 
-pub sound-length : (s : List ℕ) → Sound s → length s ≡ 16 + 596 * slotsOf s
+pub sound-length : (s : List ℕ) → Sound s → length s ≡ slotStart (slotsOf s)
 sound-length s k = ap length (k .bytes) ∙ length-image (slotsOf s) (entriesOf s) (omega (arith, used-is s, k .room))

@@ -3,5 +3,5 @@ pub mod Fields
 pub mod SlotLaws
 pub mod ImageLaws
 pub mod Sealing
-pub mod Refusals
 pub mod Soundness
+pub mod Writing

@@ -12,32 +12,33 @@ use Rattle.wire.proofs.Fill.{length-zeros, length-padded, take-padded, field-he
 use Rattle.checksum.specs.Crc32c.{crc32c}
 use Rattle.entry.specs.Entry.{Entry, refusalOf}
 use Rattle.entry.proofs.Accept.{accepted}
+use Rattle.image.specs.Layout.{keyAt, keyWidth, valueWidth, bodyWidth, slotWidth}
 use Rattle.image.specs.Slot.{slotWith}
 use Rattle.image.specs.Image.{slotHead, slotBody, slotBytes, keyIn, flagIn, valueIn, stampIn, slotEntry}
 
-pub length-head : (e : Entry) → length (slotHead e) ≡ 16
+pub length-head : (e : Entry) → length (slotHead e) ≡ keyAt
 unfolding slotHead
 length-head e = simp (length-append, length-be, length-zeros)
 
-pub length-body : (e : Entry) → length (slotBody e) ≡ 592
+pub length-body : (e : Entry) → length (slotBody e) ≡ bodyWidth
 unfolding slotBody
 length-body e = simp (length-append, length-head, length-padded)
 
-pub length-slot : (e : Entry) → length (slotBytes e) ≡ 596
+pub length-slot : (e : Entry) → length (slotBytes e) ≡ slotWidth
 unfolding slotBytes
 length-slot e = simp (length-append, length-body, length-be)
 
 -- an entry written over a slot
-pub slot-with : (e : Entry) (s : List ℕ) → length s ≡ 596 → slotWith e s ≡ slotBytes e
+pub slot-with : (e : Entry) (s : List ℕ) → length s ≡ slotWidth → slotWith e s ≡ slotBytes e
 unfolding slotWith
-slot-with e s h = rw (eq-eqb (length s) 596 h)
+slot-with e s h = rw (eq-eqb (length s) slotWidth h)
 
 -- ---- what is read back
 
 -- an entry whose parts fit the fields of a slot
 pub record Fit (e : Entry) : Type 0 where
-  pub key : length (e .key) ≤ 64
-  pub value : length (e .value) ≤ 512
+  pub key : length (e .key) ≤ keyWidth
+  pub value : length (e .value) ≤ valueWidth
   pub flag : e .flag < 2 ^ 8
   pub phys : e .stamp .phys < 2 ^ 48
   pub logical : e .stamp .logical < 2 ^ 16
@@ -46,7 +47,7 @@ pub record Fit (e : Entry) : Type 0 where
 module _ (e : Entry) where
   -- what follows the value's length, its time and the head
   abbrev tail : List ℕ
-  tail = padded 64 (e .key) ++ (padded 512 (e .value) ++ be 4 (crc32c (slotBody e)))
+  tail = padded keyWidth (e .key) ++ (padded valueWidth (e .value) ++ be 4 (crc32c (slotBody e)))
 
   abbrev counts : List ℕ
   counts = be 2 (e .stamp .logical) ++ (be 1 (e .stamp .node) ++ (zeros 3 ++ tail))
@@ -67,11 +68,11 @@ module _ (e : Entry) where
   pub past-phys : (at w : ℕ) → field (10 + at) w (slotBytes e) ≡ field at w counts
   past-phys at w = ap (λ (k : ℕ). field k w (slotBytes e)) (omega arith) ∙ past-vlen (6 + at) w ∙ field-past 6 at w (be 6 (e .stamp .phys)) _ (length-be 6 _)
 
-  pub past-head : (at w : ℕ) → field (16 + at) w (slotBytes e) ≡ field at w tail
+  pub past-head : (at w : ℕ) → field (keyAt + at) w (slotBytes e) ≡ field at w tail
   unfolding slotBytes slotBody
   past-head at w =
-      ap (field (16 + at) w) (append-assoc (slotHead e ++ padded 64 (e .key)) (padded 512 (e .value)) _ ∙ append-assoc (slotHead e) (padded 64 (e .key)) _)
-      ∙ field-past 16 at w (slotHead e) _ (length-head e)
+      ap (field (keyAt + at) w) (append-assoc (slotHead e ++ padded keyWidth (e .key)) (padded valueWidth (e .value)) _ ∙ append-assoc (slotHead e) (padded keyWidth (e .key)) _)
+      ∙ field-past keyAt at w (slotHead e) _ (length-head e)
 
   at-logical : field 10 2 (slotBytes e) ≡ be 2 (e .stamp .logical)
   at-logical = rw (past-phys 0 2, field-here 2 (be 2 (e .stamp .logical)) _ (length-be 2 _))
@@ -101,11 +102,11 @@ module _ (e : Entry) (f : Fit e) where
 
   in-key : keyIn (slotBytes e) ≡ e .key
   unfolding keyIn
-  in-key = rw (in-klen, past-head e 0 64, field-here 64 (padded 64 (e .key)) _ (length-padded 64 (e .key))) (take-padded 64 (e .key) (f .key))
+  in-key = rw (in-klen, past-head e 0 keyWidth, field-here keyWidth (padded keyWidth (e .key)) _ (length-padded keyWidth (e .key))) (take-padded keyWidth (e .key) (f .key))
 
   in-value : valueIn (slotBytes e) ≡ e .value
   unfolding valueIn
-  in-value = rw (in-vlen, past-head e 64 512, field-past 64 0 512 (padded 64 (e .key)) _ (length-padded 64 (e .key)), field-here 512 (padded 512 (e .value)) _ (length-padded 512 (e .value))) (take-padded 512 (e .value) (f .value))
+  in-value = rw (in-vlen, past-head e keyWidth valueWidth, field-past keyWidth 0 valueWidth (padded keyWidth (e .key)) _ (length-padded keyWidth (e .key)), field-here valueWidth (padded valueWidth (e .value)) _ (length-padded valueWidth (e .value))) (take-padded valueWidth (e .value) (f .value))
 
   in-stamp : stampIn (slotBytes e) ≡ e .stamp
   unfolding stampIn

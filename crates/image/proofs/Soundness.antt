@@ -22,14 +22,16 @@ use Rattle.entry.specs.declared.Stamp.{Stamp}
 use Rattle.entry.specs.declared.Refusal.{Refusal}
 use Rattle.entry.specs.declared.Acceptance.{Acceptance}
 use Rattle.entry.specs.declared.Acceptance.the-variants.{Acceptable, Refused}
+use Rattle.entry.specs.Refusal.{number}
 use Rattle.entry.specs.Acceptance.{refusalNumber}
 use Rattle.entry.specs.Order.{keyBelow}
 use Rattle.entry.specs.Entry.{Entry, entryOf, refusalOf}
+use Rattle.entry.proofs.Numbers.{number-range}
+use Rattle.image.specs.Layout.{headerWidth, keyWidth, valueWidth, slotWidth, mostSlots, slotStart}
 use Rattle.image.specs.Image.{slotBytes, slots, header, keyIn, flagIn, valueIn, stampIn, slotEntry, entriesIn, slotsOf, usedOf, entriesOf, acceptable, allAcceptable, belowFirst, ascending, sound}
 use Rattle.image.specs.Slot.{slotAt}
 use Rattle.image.specs.Check.{sealed, slotSound, slotsSound, shaped}
 use Rattle.image.proofs.Compared.{came-below, came-not-below}
-use Rattle.image.proofs.Refusals.{number-not-zero}
 use Rattle.wire.proofs.Fields.{be-field, field-split}
 use Rattle.image.proofs.Fields.{field-past-all}
 use Rattle.image.proofs.SlotLaws.{length-slot, Fit, fit-of, slot-entry, in-klen, in-vlen}
@@ -58,19 +60,19 @@ bad : (t : List ℕ) → (Good t → ⊥) → false ≡ slotSound t
 bad t h = sym (false-of (slotSound t) (λ e. h (slot-good t e)))
 
 module _ (t : List ℕ) where
-  pub bad-length : (length t ≡ 596 → ⊥) → false ≡ slotSound t
+  pub bad-length : (length t ≡ slotWidth → ⊥) → false ≡ slotSound t
   bad-length h = bad t (λ g. h (ap length (g .is) ∙ length-slot (slotEntry t)))
 
-  pub bad-klen : (n : ℕ) → n ≡ num (field 0 1 t) → 64 < n → false ≡ slotSound t
+  pub bad-klen : (n : ℕ) → n ≡ num (field 0 1 t) → keyWidth < n → false ≡ slotSound t
   bad-klen n e h = bad t (λ g. no n _ h (g .fit .key) (e ∙ ap (λ (l : List ℕ). num (field 0 1 l)) (g .is) ∙ in-klen (slotEntry t) (g .fit)))
     where
-      no : (n m : ℕ) → 64 < n → m ≤ 64 → n ≡ m → ⊥
+      no : (n m : ℕ) → keyWidth < n → m ≤ keyWidth → n ≡ m → ⊥
       no n m a b e = omega arith
 
-  pub bad-vlen : (n : ℕ) → n ≡ num (field 2 2 t) → 512 < n → false ≡ slotSound t
+  pub bad-vlen : (n : ℕ) → n ≡ num (field 2 2 t) → valueWidth < n → false ≡ slotSound t
   bad-vlen n e h = bad t (λ g. no n _ h (g .fit .value) (e ∙ ap (λ (l : List ℕ). num (field 2 2 l)) (g .is) ∙ in-vlen (slotEntry t) (g .fit)))
     where
-      no : (n m : ℕ) → 512 < n → m ≤ 512 → n ≡ m → ⊥
+      no : (n m : ℕ) → valueWidth < n → m ≤ valueWidth → n ≡ m → ⊥
       no n m a b e = omega arith
 
   -- the parts that were read, and the verdict on them
@@ -84,7 +86,7 @@ module _ (t : List ℕ) where
     refusal-is = re ∙ ap refusalOf read-entry
 
     pub bad-verdict : (n : Refusal) → r ≡ Refused n → false ≡ slotSound t
-    bad-verdict n e = bad t (λ g. number-not-zero n (sym (ap refusalNumber e) ∙ refusal-is ∙ g .ok))
+    bad-verdict n e = bad t (λ g. let z : number n ≡ 0 = sym (ap refusalNumber e) ∙ refusal-is ∙ g .ok in omega (arith, number-range n .0))
 
     pub good-verdict : r ≡ Acceptable → sealed t ≡ slotSound t
     unfolding slotSound acceptable
@@ -98,39 +100,39 @@ slots-good (e ∷ es) r f a =
     let t = and-true (acceptable e) (allAcceptable es) a in
     rw (first-slot e es r, other-slots e es r, good-slot e (f .0) (t .0)) (slots-good es r (f .1) (t .1))
 
-run-is : (n : ℕ) (t : List ℕ) → slotsSound n t ≡ true → t ≡ slots (entriesIn n t) ++ drop (596 * n) t
+run-is : (n : ℕ) (t : List ℕ) → slotsSound n t ≡ true → t ≡ slots (entriesIn n t) ++ drop (slotWidth * n) t
 unfolding slotsSound slots entriesIn
 run-is zero t h = refl
 run-is (suc n) t h =
-    let k = and-true (slotSound (take 596 t)) (slotsSound n (drop 596 t)) h in
-    let g = slot-good (take 596 t) (k .0) in
-    sym (take-append-drop 596 t) ∙ ap₂ (λ (x y : List ℕ). x ++ y) (g .is) (run-is n (drop 596 t) (k .1))
-    ∙ sym (append-assoc (slotBytes (slotEntry (take 596 t))) (slots (entriesIn n (drop 596 t))) (drop (596 * n) (drop 596 t)))
-    ∙ ap (λ (r : List ℕ). (slotBytes (slotEntry (take 596 t)) ++ slots (entriesIn n (drop 596 t))) ++ r) (drop-drop (596 * n) 596 t ∙ ap (λ (m : ℕ). drop m t) (next-slot n))
+    let k = and-true (slotSound (take slotWidth t)) (slotsSound n (drop slotWidth t)) h in
+    let g = slot-good (take slotWidth t) (k .0) in
+    sym (take-append-drop slotWidth t) ∙ ap₂ (λ (x y : List ℕ). x ++ y) (g .is) (run-is n (drop slotWidth t) (k .1))
+    ∙ sym (append-assoc (slotBytes (slotEntry (take slotWidth t))) (slots (entriesIn n (drop slotWidth t))) (drop (slotWidth * n) (drop slotWidth t)))
+    ∙ ap (λ (r : List ℕ). (slotBytes (slotEntry (take slotWidth t)) ++ slots (entriesIn n (drop slotWidth t))) ++ r) (drop-drop (slotWidth * n) slotWidth t ∙ ap (λ (m : ℕ). drop m t) (next-slot n))
 
 run-accepts : (n : ℕ) (t : List ℕ) → slotsSound n t ≡ true → allAcceptable (entriesIn n t) ≡ true
 unfolding slotsSound entriesIn allAcceptable acceptable
 run-accepts zero t h = refl
 run-accepts (suc n) t h =
-    let k = and-true (slotSound (take 596 t)) (slotsSound n (drop 596 t)) h in
-    rw (eq-eqb (refusalOf (slotEntry (take 596 t))) 0 (slot-good (take 596 t) (k .0) .ok)) (run-accepts n (drop 596 t) (k .1))
+    let k = and-true (slotSound (take slotWidth t)) (slotsSound n (drop slotWidth t)) h in
+    rw (eq-eqb (refusalOf (slotEntry (take slotWidth t))) 0 (slot-good (take slotWidth t) (k .0) .ok)) (run-accepts n (drop slotWidth t) (k .1))
 
 -- a loop over them: what is left to check at slot i
 abbrev pub slotsLeft : List ℕ → ℕ → Bool
-slotsLeft s i = slotsSound (usedOf s - i) (drop (16 + 596 * i) s)
+slotsLeft s i = slotsSound (usedOf s - i) (drop (slotStart i) s)
 
 module _ (s : List ℕ) where
-  pub run-none : slotsLeft s 0 ≡ slotsSound (usedOf s) (drop 16 s)
-  run-none = ap (λ (m : ℕ). slotsSound m (drop 16 s)) (sub-zero (usedOf s))
+  pub run-none : slotsLeft s 0 ≡ slotsSound (usedOf s) (drop headerWidth s)
+  run-none = ap (λ (m : ℕ). slotsSound m (drop headerWidth s)) (sub-zero (usedOf s))
 
   module _ (i : ℕ) where
     run-on : i < usedOf s → slotsLeft s i ≡ (slotSound (slotAt i s) && slotsLeft s (i + 1))
     unfolding slotsSound slotAt field
     run-on h =
         let e : usedOf s - i ≡ suc (usedOf s - (i + 1)) = omega arith in
-        let d : 16 + 596 * i + 596 ≡ 16 + 596 * (i + 1) = omega arith in
-        ap (λ (m : ℕ). slotsSound m (drop (16 + 596 * i) s)) e
-        ∙ ap (λ (l : List ℕ). slotSound (take 596 (drop (16 + 596 * i) s)) && slotsSound (usedOf s - (i + 1)) l) (drop-drop 596 (16 + 596 * i) s ∙ ap (λ (m : ℕ). drop m s) d)
+        let d : slotStart i + slotWidth ≡ slotStart (i + 1) = omega arith in
+        ap (λ (m : ℕ). slotsSound m (drop (slotStart i) s)) e
+        ∙ ap (λ (l : List ℕ). slotSound (take slotWidth (drop (slotStart i) s)) && slotsSound (usedOf s - (i + 1)) l) (drop-drop slotWidth (slotStart i) s ∙ ap (λ (m : ℕ). drop m s) d)
 
     pub run-next : i < usedOf s → slotSound (slotAt i s) ≡ true → slotsLeft s (i + 1) ≡ slotsLeft s i
     run-next h g = sym (run-on h ∙ ap (λ (b : Bool). b && slotsLeft s (i + 1)) g)
@@ -140,7 +142,7 @@ module _ (s : List ℕ) where
 
     pub run-end : usedOf s ≤ i → slotsLeft s i ≡ true
     unfolding slotsSound
-    run-end h = let e : usedOf s - i ≡ 0 = omega arith in ap (λ (m : ℕ). slotsSound m (drop (16 + 596 * i) s)) e
+    run-end h = let e : usedOf s - i ≡ 0 = omega arith in ap (λ (m : ℕ). slotsSound m (drop (slotStart i) s)) e
 
 -- ---- their keys
 module _ (s : List ℕ) (i : ℕ) (lo : 1 ≤ i) (hi : i < usedOf s) where
@@ -180,10 +182,10 @@ keys-end s i h = keys-one (entriesOf s) (i - 1) (omega (arith, used-is s))
 -- ---- the header
 pub record Shape (s : List ℕ) : Type 0 where
   pub some : 1 ≤ slotsOf s
-  pub most : slotsOf s ≤ 100
+  pub most : slotsOf s ≤ mostSlots
   pub room : usedOf s ≤ slotsOf s
-  pub long : length s ≡ 16 + 596 * slotsOf s
-  pub head : take 16 s ≡ header (slotsOf s) (usedOf s)
+  pub long : length s ≡ slotStart (slotsOf s)
+  pub head : take headerWidth s ≡ header (slotsOf s) (usedOf s)
 
 pub shape-of : (s : List ℕ) → shaped s ≡ true → Shape s
 unfolding shaped
@@ -196,7 +198,7 @@ shape-of s h =
 
 is-shaped : (s : List ℕ) → Shape s → shaped s ≡ true
 unfolding shaped
-is-shaped s k = rw (le-leb _ _ (k .some), le-leb _ _ (k .most), le-leb _ _ (k .room), eq-eqb _ _ (k .long), ← k .head) (sameBytes-refl (take 16 s))
+is-shaped s k = rw (le-leb _ _ (k .some), le-leb _ _ (k .most), le-leb _ _ (k .room), eq-eqb _ _ (k .long), ← k .head) (sameBytes-refl (take headerWidth s))
 
 shapeless : (s : List ℕ) → (Shape s → ⊥) → false ≡ shaped s
 shapeless s h = sym (false-of (shaped s) (λ e. h (shape-of s e)))
@@ -205,53 +207,53 @@ module _ (s : List ℕ) (c : ℕ) (ce : c ≡ slotsOf s) where
   pub bad-some : c < 1 → false ≡ shaped s
   bad-some h = shapeless s (λ k. omega (arith, k .some))
 
-  pub bad-most : 100 < c → false ≡ shaped s
+  pub bad-most : mostSlots < c → false ≡ shaped s
   bad-most h = shapeless s (λ k. omega (arith, k .most))
 
   pub bad-room : (u : ℕ) → u ≡ usedOf s → c < u → false ≡ shaped s
   bad-room u ue h = shapeless s (λ k. omega (arith, k .room))
 
-  pub bad-size : (length s ≡ 16 + 596 * c → ⊥) → false ≡ shaped s
-  bad-size h = shapeless s (λ k. h (k .long ∙ ap (λ (n : ℕ). 16 + 596 * n) (sym ce)))
+  pub bad-size : (length s ≡ slotStart c → ⊥) → false ≡ shaped s
+  bad-size h = shapeless s (λ k. h (k .long ∙ ap slotStart (sym ce)))
 
 -- what a right header says of its fields
 module _ (s : List ℕ) (k : Shape s) where
-  laid-out : s ≡ be 2 (slotsOf s) ++ (be 2 (usedOf s) ++ (be 2 596 ++ (be 2 16 ++ (zeros 8 ++ drop 16 s))))
-  laid-out = sym (take-append-drop 16 s) ∙ ap (λ (h : List ℕ). h ++ drop 16 s) (k .head) ∙ flat-header (slotsOf s) (usedOf s) (drop 16 s)
+  laid-out : s ≡ be 2 (slotsOf s) ++ (be 2 (usedOf s) ++ (be 2 slotWidth ++ (be 2 headerWidth ++ (zeros 8 ++ drop headerWidth s))))
+  laid-out = sym (take-append-drop headerWidth s) ∙ ap (λ (h : List ℕ). h ++ drop headerWidth s) (k .head) ∙ flat-header (slotsOf s) (usedOf s) (drop headerWidth s)
 
-  past-counts : (at w : ℕ) → field (4 + at) w s ≡ field at w (be 2 596 ++ (be 2 16 ++ (zeros 8 ++ drop 16 s)))
+  past-counts : (at w : ℕ) → field (4 + at) w s ≡ field at w (be 2 slotWidth ++ (be 2 headerWidth ++ (zeros 8 ++ drop headerWidth s)))
   past-counts at w =
       let n : 4 + at ≡ 2 + (2 + at) = omega arith in
       ap (λ (k : ℕ). field k w s) n ∙ ap (field (2 + (2 + at)) w) laid-out
       ∙ field-past 2 (2 + at) w (be 2 (slotsOf s)) _ (length-be 2 _) ∙ field-past 2 at w (be 2 (usedOf s)) _ (length-be 2 _)
 
-  width-is : num (field 4 2 s) ≡ 596
-  width-is = ap num (past-counts 0 2 ∙ field-here 2 (be 2 596) _ (length-be 2 _)) ∙ num-be 2 596 (omega arith)
+  width-is : num (field 4 2 s) ≡ slotWidth
+  width-is = ap num (past-counts 0 2 ∙ field-here 2 (be 2 slotWidth) _ (length-be 2 _)) ∙ num-be 2 slotWidth (omega arith)
 
-  offset-is : num (field 6 2 s) ≡ 16
-  offset-is = ap num (past-counts 2 2 ∙ field-past 2 0 2 (be 2 596) _ (length-be 2 _) ∙ field-here 2 (be 2 16) _ (length-be 2 _)) ∙ num-be 2 16 (omega arith)
+  offset-is : num (field 6 2 s) ≡ headerWidth
+  offset-is = ap num (past-counts 2 2 ∙ field-past 2 0 2 (be 2 slotWidth) _ (length-be 2 _) ∙ field-here 2 (be 2 headerWidth) _ (length-be 2 _)) ∙ num-be 2 headerWidth (omega arith)
 
   rest-is : field 8 8 s ≡ zeros 8
-  rest-is = past-counts 4 8 ∙ field-past 2 2 8 (be 2 596) _ (length-be 2 _) ∙ field-past 2 0 8 (be 2 16) _ (length-be 2 _) ∙ field-here 8 (zeros 8) _ (length-zeros 8)
+  rest-is = past-counts 4 8 ∙ field-past 2 2 8 (be 2 slotWidth) _ (length-be 2 _) ∙ field-past 2 0 8 (be 2 headerWidth) _ (length-be 2 _) ∙ field-here 8 (zeros 8) _ (length-zeros 8)
 
 module _ (s : List ℕ) where
-  pub bad-width : (n : ℕ) → n ≡ num (field 4 2 s) → (n ≡ 596 → ⊥) → false ≡ shaped s
+  pub bad-width : (n : ℕ) → n ≡ num (field 4 2 s) → (n ≡ slotWidth → ⊥) → false ≡ shaped s
   bad-width n e h = shapeless s (λ k. h (e ∙ width-is s k))
 
-  pub bad-offset : (n : ℕ) → n ≡ num (field 6 2 s) → (n ≡ 16 → ⊥) → false ≡ shaped s
+  pub bad-offset : (n : ℕ) → n ≡ num (field 6 2 s) → (n ≡ headerWidth → ⊥) → false ≡ shaped s
   bad-offset n e h = shapeless s (λ k. h (e ∙ offset-is s k))
 
   -- and what right fields say of the header
-  module _ (b : Bytes s) (some : 1 ≤ slotsOf s) (most : slotsOf s ≤ 100) (room : usedOf s ≤ slotsOf s) (long : length s ≡ 16 + 596 * slotsOf s)
-      (width : num (field 4 2 s) ≡ 596) (offset : num (field 6 2 s) ≡ 16) where
-    be-here : (at w : ℕ) → at + w ≤ 16 → be w (num (field at w s)) ≡ field at w s
+  module _ (b : Bytes s) (some : 1 ≤ slotsOf s) (most : slotsOf s ≤ mostSlots) (room : usedOf s ≤ slotsOf s) (long : length s ≡ slotStart (slotsOf s))
+      (width : num (field 4 2 s) ≡ slotWidth) (offset : num (field 6 2 s) ≡ headerWidth) where
+    be-here : (at w : ℕ) → at + w ≤ headerWidth → be w (num (field at w s)) ≡ field at w s
     be-here at w h = be-field at w s b (omega arith)
 
-    whole : field 0 16 s ≡ take 16 s
+    whole : field 0 headerWidth s ≡ take headerWidth s
     unfolding field
     whole = refl
 
-    head-is : field 8 8 s ≡ zeros 8 → take 16 s ≡ header (slotsOf s) (usedOf s)
+    head-is : field 8 8 s ≡ zeros 8 → take headerWidth s ≡ header (slotsOf s) (usedOf s)
     unfolding header slotsOf usedOf
     head-is z = sym (rw (
       ap (be 2) (sym width) ∙ be-here 4 2 (omega arith),
@@ -279,17 +281,17 @@ module _ (s : List ℕ) where
     most = k .most;
     room = k .room;
     long = sound-length s k;
-    head = ap (take 16) (k .bytes ∙ flat-image (slotsOf s) (entriesOf s)) ∙ take-at (header (slotsOf s) (length (entriesOf s))) _ 16 (length-header _ _) ∙ ap (header (slotsOf s)) (used-is s);
+    head = ap (take headerWidth) (k .bytes ∙ flat-image (slotsOf s) (entriesOf s)) ∙ take-at (header (slotsOf s) (length (entriesOf s))) _ headerWidth (length-header _ _) ∙ ap (header (slotsOf s)) (used-is s);
   }
 
-  sound-slots : Sound s → slotsSound (usedOf s) (drop 16 s) ≡ true
+  sound-slots : Sound s → slotsSound (usedOf s) (drop headerWidth s) ≡ true
   sound-slots k = ap₂ slotsSound (sym (used-is s)) (past-header s k) ∙ slots-good (entriesOf s) _ (sound-fits s k) (k .each)
 
-  sound-rest : Sound s → drop (16 + 596 * usedOf s) s ≡ zeros (596 * (slotsOf s - usedOf s))
+  sound-rest : Sound s → drop (slotStart (usedOf s)) s ≡ zeros (slotWidth * (slotsOf s - usedOf s))
   sound-rest k =
-      sym (drop-drop (596 * usedOf s) 16 s) ∙ ap (drop (596 * usedOf s)) (past-header s k)
-      ∙ drop-at (slots (entriesOf s)) _ (596 * usedOf s) (length-slots (entriesOf s) ∙ ap (λ (u : ℕ). 596 * u) (used-is s))
-      ∙ ap (λ (u : ℕ). zeros (596 * (slotsOf s - u))) (used-is s)
+      sym (drop-drop (slotWidth * usedOf s) headerWidth s) ∙ ap (drop (slotWidth * usedOf s)) (past-header s k)
+      ∙ drop-at (slots (entriesOf s)) _ (slotWidth * usedOf s) (length-slots (entriesOf s) ∙ ap (λ (u : ℕ). slotWidth * u) (used-is s))
+      ∙ ap (λ (u : ℕ). zeros (slotWidth * (slotsOf s - u))) (used-is s)
 
   unsound : (Sound s → ⊥) → false ≡ sound s
   unsound h = sym (false-of (sound s) (λ e. h (sound-is s e)))
@@ -297,35 +299,35 @@ module _ (s : List ℕ) where
   pub bad-shape : shaped s ≡ false → false ≡ sound s
   bad-shape x = unsound (λ k. clash (is-shaped s (sound-shape k)) x)
 
-  pub bad-slots : slotsSound (usedOf s) (drop 16 s) ≡ false → false ≡ sound s
+  pub bad-slots : slotsSound (usedOf s) (drop headerWidth s) ≡ false → false ≡ sound s
   bad-slots x = unsound (λ k. clash (sound-slots k) x)
 
   pub bad-keys : ascending (entriesOf s) ≡ false → false ≡ sound s
   bad-keys x = unsound (λ k. clash (k .order) x)
 
-  module _ (sh : Shape s) (ok : slotsSound (usedOf s) (drop 16 s) ≡ true) (asc : ascending (entriesOf s) ≡ true) where
-    checked : drop (16 + 596 * usedOf s) s ≡ zeros (596 * (slotsOf s - usedOf s)) → Sound s
+  module _ (sh : Shape s) (ok : slotsSound (usedOf s) (drop headerWidth s) ≡ true) (asc : ascending (entriesOf s) ≡ true) where
+    checked : drop (slotStart (usedOf s)) s ≡ zeros (slotWidth * (slotsOf s - usedOf s)) → Sound s
     unfolding entriesOf
     checked rest = record {
       some = sh .some;
       most = sh .most;
       room = sh .room;
-      each = run-accepts (usedOf s) (drop 16 s) ok;
+      each = run-accepts (usedOf s) (drop headerWidth s) ok;
       order = asc;
       bytes =
-          sym (take-append-drop 16 s)
+          sym (take-append-drop headerWidth s)
           ∙ ap₂ (λ (x y : List ℕ). x ++ y) (sh .head ∙ ap (header (slotsOf s)) (sym (used-is s)))
-          (run-is (usedOf s) (drop 16 s) ok ∙ ap (λ (r : List ℕ). slots (entriesOf s) ++ r) (drop-drop (596 * usedOf s) 16 s ∙ rest ∙ ap (λ (u : ℕ). zeros (596 * (slotsOf s - u))) (sym (used-is s))))
+          (run-is (usedOf s) (drop headerWidth s) ok ∙ ap (λ (r : List ℕ). slots (entriesOf s) ++ r) (drop-drop (slotWidth * usedOf s) headerWidth s ∙ rest ∙ ap (λ (u : ℕ). zeros (slotWidth * (slotsOf s - u))) (sym (used-is s))))
           ∙ sym (flat-image (slotsOf s) (entriesOf s));
     }
 
-    length-rest : length (drop (16 + 596 * usedOf s) s) ≡ 596 * (slotsOf s - usedOf s)
-    length-rest = length-drop (16 + 596 * usedOf s) s ∙ omega (arith, sh .long, sh .room)
+    length-rest : length (drop (slotStart (usedOf s)) s) ≡ slotWidth * (slotsOf s - usedOf s)
+    length-rest = length-drop (slotStart (usedOf s)) s ∙ omega (arith, sh .long, sh .room)
 
-    pub sound-by-rest : (p : List ℕ) → p ≡ field (16 + 596 * usedOf s) (length s) s → sameBytes p (zeros (length p)) ≡ sound s
+    pub sound-by-rest : (p : List ℕ) → p ≡ field (slotStart (usedOf s)) (length s) s → sameBytes p (zeros (length p)) ≡ sound s
     sound-by-rest p e =
-        let q : p ≡ drop (16 + 596 * usedOf s) s = e ∙ field-past-all (16 + 596 * usedOf s) (length s) s (omega arith) in
+        let q : p ≡ drop (slotStart (usedOf s)) s = e ∙ field-past-all (slotStart (usedOf s)) (length s) s (omega arith) in
         elim (test (sameBytes p (zeros (length p)))) [
-          | inl t ↦ t ∙ sym (is-sound s (checked (sym q ∙ zero-is (596 * (slotsOf s - usedOf s)) p (ap length q ∙ length-rest) t)))
-          | inr t ↦ t ∙ unsound (λ k. clash (zero-true (596 * (slotsOf s - usedOf s)) p (q ∙ sound-rest k)) t)
+          | inl t ↦ t ∙ sym (is-sound s (checked (sym q ∙ zero-is (slotWidth * (slotsOf s - usedOf s)) p (ap length q ∙ length-rest) t)))
+          | inr t ↦ t ∙ unsound (λ k. clash (zero-true (slotWidth * (slotsOf s - usedOf s)) p (q ∙ sound-rest k)) t)
         ]

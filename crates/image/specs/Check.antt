@@ -8,6 +8,7 @@ use lib.Dec.{leb, eqb}
 use Rattle.wire.specs.Number.{num}
 use Rattle.wire.specs.Fill.{field}
 use Rattle.wire.specs.Order.{sameBytes}
+use Rattle.image.specs.Layout.{headerWidth, klenAt, vlenAt, keyWidth, valueWidth, slotWidth, mostSlots, slotStart}
 use Rattle.image.specs.Image.{header, slotEntry, slotBytes, slotsOf, usedOf, acceptable}
 
 -- a slot is the slot of its entry: its zero fill and its checksum are right
@@ -21,7 +22,7 @@ slotSound s = acceptable (slotEntry s) && sealed s
 -- so for each of the first n slots
 unfoldable pub slotsSound : ℕ → List ℕ → Bool
 slotsSound zero s = true
-slotsSound (suc n) s = slotSound (take 596 s) && slotsSound n (drop 596 s)
+slotsSound (suc n) s = slotSound (take slotWidth s) && slotsSound n (drop slotWidth s)
 
 -- r is the number in the w bytes at an offset
 pub record NumberAt (at w : ℕ) (s : List ℕ) (r : ℕ) : Type 0 where
@@ -30,14 +31,14 @@ pub record NumberAt (at w : ℕ) (s : List ℕ) (r : ℕ) : Type 0 where
 
 -- klen and vlen of a slot, within their fields
 pub record Lengths (s : List ℕ) (klen vlen : ℕ) : Type 0 where
-  pub long : length s ≡ 596
-  pub key : klen ≡ num (field 0 1 s)
-  pub value : vlen ≡ num (field 2 2 s)
-  pub key-fits : klen ≤ 64
-  pub value-fits : vlen ≤ 512
+  pub long : length s ≡ slotWidth
+  pub key : klen ≡ num (field klenAt 1 s)
+  pub value : vlen ≡ num (field vlenAt 2 s)
+  pub key-fits : klen ≤ keyWidth
+  pub value-fits : vlen ≤ valueWidth
 
 -- C is 1 to 100, U at most C, the length is exact, and the header is right
 unfoldable pub shaped : List ℕ → Bool
 shaped s =
-    leb 1 (slotsOf s) && leb (slotsOf s) 100 && leb (usedOf s) (slotsOf s)
-    && eqb (length s) (16 + 596 * slotsOf s) && sameBytes (take 16 s) (header (slotsOf s) (usedOf s))
+    leb 1 (slotsOf s) && leb (slotsOf s) mostSlots && leb (usedOf s) (slotsOf s)
+    && eqb (length s) (slotStart (slotsOf s)) && sameBytes (take headerWidth s) (header (slotsOf s) (usedOf s))

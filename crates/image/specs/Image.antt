@@ -11,24 +11,25 @@ use Rattle.checksum.specs.Crc32c.{crc32c}
 use Rattle.entry.specs.declared.Stamp.{Stamp}
 use Rattle.entry.specs.Order.{keyBelow}
 use Rattle.entry.specs.Entry.{Entry, refusalOf}
+use Rattle.image.specs.Layout.{slotsAt, usedAt, headerWidth, klenAt, flagAt, vlenAt, physAt, logicalAt, nodeAt, keyAt, keyWidth, valueAt, valueWidth, slotWidth, mostSlots}
 
 -- ---- from the entries to the bytes
 
--- slots C (2), used U (2), slot width 596 (2), offset of first slot 16 (2), eight zero bytes
+-- slots C (2), used U (2), slot width (2), offset of first slot (2), eight zero bytes
 unfoldable pub header : ℕ → ℕ → List ℕ
-header c u = be 2 c ++ be 2 u ++ be 2 596 ++ be 2 16 ++ zeros 8
+header c u = be 2 c ++ be 2 u ++ be 2 slotWidth ++ be 2 headerWidth ++ zeros 8
 
--- a slot's first 16 bytes: klen(1), flag(1), vlen(2), phys(6), logical(2), node(1), three zeros
+-- a slot's bytes before the key: klen(1), flag(1), vlen(2), phys(6), logical(2), node(1), three zeros
 unfoldable pub slotHead : Entry → List ℕ
 slotHead e =
     be 1 (length (e .key)) ++ be 1 (e .flag) ++ be 2 (length (e .value))
     ++ be 6 (e .stamp .phys) ++ be 2 (e .stamp .logical) ++ be 1 (e .stamp .node) ++ zeros 3
 
--- the 592 bytes before the checksum: key in 64 bytes, value in 512 bytes, zeros past klen and vlen
+-- a slot's bytes before the checksum: key in 64 bytes, value in 512 bytes, zeros past klen and vlen
 unfoldable pub slotBody : Entry → List ℕ
-slotBody e = slotHead e ++ padded 64 (e .key) ++ padded 512 (e .value)
+slotBody e = slotHead e ++ padded keyWidth (e .key) ++ padded valueWidth (e .value)
 
--- a slot, with the CRC32C(4) of the 592 bytes before it
+-- a slot, with the CRC32C(4) of the bytes before it
 unfoldable pub slotBytes : Entry → List ℕ
 slotBytes e = slotBody e ++ be 4 (crc32c (slotBody e))
 
@@ -38,39 +39,39 @@ slots (e ∷ es) = slotBytes e ++ slots es
 
 -- used slots come first; unused slots are all zero
 unfoldable pub image : ℕ → List Entry → List ℕ
-image c es = header c (length es) ++ slots es ++ zeros (596 * (c - length es))
+image c es = header c (length es) ++ slots es ++ zeros (slotWidth * (c - length es))
 
 -- ---- from the bytes to the entries
 
 -- the key that a slot's bytes hold
 unfoldable pub keyIn : List ℕ → List ℕ
-keyIn s = take (num (field 0 1 s)) (field 16 64 s)
+keyIn s = take (num (field klenAt 1 s)) (field keyAt keyWidth s)
 
 unfoldable pub flagIn : List ℕ → ℕ
-flagIn s = num (field 1 1 s)
+flagIn s = num (field flagAt 1 s)
 
 unfoldable pub valueIn : List ℕ → List ℕ
-valueIn s = take (num (field 2 2 s)) (field 80 512 s)
+valueIn s = take (num (field vlenAt 2 s)) (field valueAt valueWidth s)
 
 unfoldable pub stampIn : List ℕ → Stamp
-stampIn s = record { phys = num (field 4 6 s); logical = num (field 10 2 s); node = num (field 12 1 s) }
+stampIn s = record { phys = num (field physAt 6 s); logical = num (field logicalAt 2 s); node = num (field nodeAt 1 s) }
 
 unfoldable pub slotEntry : List ℕ → Entry
 slotEntry s = record { key = keyIn s; value = valueIn s; flag = flagIn s; stamp = stampIn s }
 
 unfoldable pub entriesIn : ℕ → List ℕ → List Entry
 entriesIn zero s = []
-entriesIn (suc n) s = slotEntry (take 596 s) ∷ entriesIn n (drop 596 s)
+entriesIn (suc n) s = slotEntry (take slotWidth s) ∷ entriesIn n (drop slotWidth s)
 
 unfoldable pub slotsOf : List ℕ → ℕ
-slotsOf s = num (field 0 2 s)
+slotsOf s = num (field slotsAt 2 s)
 
 unfoldable pub usedOf : List ℕ → ℕ
-usedOf s = num (field 2 2 s)
+usedOf s = num (field usedAt 2 s)
 
 -- the entries of the used slots
 unfoldable pub entriesOf : List ℕ → List Entry
-entriesOf s = entriesIn (usedOf s) (drop 16 s)
+entriesOf s = entriesIn (usedOf s) (drop headerWidth s)
 
 -- ---- soundness
 
@@ -94,5 +95,5 @@ ascending (e ∷ es) = belowFirst (e .key) es && ascending es
 -- C is 1 to 100, U at most C, every entry acceptable, keys strictly ascending, and the bytes are the image of just those entries
 unfoldable pub sound : List ℕ → Bool
 sound s =
-    leb 1 (slotsOf s) && leb (slotsOf s) 100 && leb (usedOf s) (slotsOf s)
+    leb 1 (slotsOf s) && leb (slotsOf s) mostSlots && leb (usedOf s) (slotsOf s)
     && allAcceptable (entriesOf s) && ascending (entriesOf s) && sameBytes s (image (slotsOf s) (entriesOf s))

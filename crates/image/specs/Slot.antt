@@ -1,17 +1,22 @@
--- One slot of an image, read and written.
-use Prim.Native.Nat.{ℕ, _+_, _*_}
+-- One slot of an image, read and written, and its header written.
+use Prim.Native.Nat.{ℕ}
 use mathlib.Core.Bool.{cond}
 use mathlib.Core.List.{List}
 use lib.ListN.{length}
 use lib.Dec.{eqb}
 use Rattle.wire.specs.Fill.{field}
 use Rattle.entry.specs.Entry.{Entry}
-use Rattle.image.specs.Image.{slotBytes}
+use Rattle.image.specs.Layout.{headerWidth, slotWidth, slotStart}
+use Rattle.image.specs.Image.{header, slotBytes}
 
--- the bytes of slot i, as many of its 596 as there are
+-- the bytes of slot i, as many of them as there are
 unfoldable pub slotAt : ℕ → List ℕ → List ℕ
-slotAt i s = field (16 + 596 * i) 596 s
+slotAt i s = field (slotStart i) slotWidth s
 
 -- a slot's bytes with an entry written over them; bytes that are no slot stay
 unfoldable pub slotWith : Entry → List ℕ → List ℕ
-slotWith e s = cond (eqb (length s) 596) (slotBytes e) s
+slotWith e s = cond (eqb (length s) slotWidth) (slotBytes e) s
+
+-- a header's bytes with the header of C slots and U used written over them; bytes that are no header stay
+unfoldable pub headerWith : ℕ → ℕ → List ℕ → List ℕ
+headerWith c u s = cond (eqb (length s) headerWidth) (header c u) s

@@ -6,7 +6,7 @@ ghost use Rattle.wire.specs.Fill.{field};
 ghost use Rattle.image.specs.Check.{NumberAt};
 
 // The w bytes at an offset.
-pub fn part(s: &[u8], at: usize, w: usize) -> &[u8]
+pub(crate) fn part(s: &[u8], at: usize, w: usize) -> &[u8]
     ensures { λ r. ⌜ now r ≡ field at w (now (s .entry)) ⌝ }
 {
     let n = s.len();
@@ -21,7 +21,7 @@ pub fn part(s: &[u8], at: usize, w: usize) -> &[u8]
 }
 
 // The number in the w bytes at an offset.
-pub fn number(s: &[u8], at: usize, w: usize) -> u64
+pub(crate) fn number(s: &[u8], at: usize, w: usize) -> u64
     requires { ⌜ w ≤ 8 ⌝ }
     ensures { λ r. ⌜ NumberAt at w (now (s .entry)) r ⌝ }
 {

@@ -1,5 +1,6 @@
 // The store image: whether it is sound, and its slots read and written. Each public function is total.
 mod field;
+pub mod layout;
 
 use checksum::Table;
 use checksum::crc32c;
@@ -12,6 +13,24 @@ use entry::Stamp;
 use entry::judge;
 use field::number;
 use field::part;
+use layout::BODY_WIDTH;
+use layout::FIRST_AT;
+use layout::FLAG_AT;
+use layout::HEADER_FILL_AT;
+use layout::HEADER_WIDTH;
+use layout::KEY_AT;
+use layout::KLEN_AT;
+use layout::LOGICAL_AT;
+use layout::MAX_SLOTS;
+use layout::NODE_AT;
+use layout::PHYS_AT;
+use layout::SLOT_FILL_AT;
+use layout::SLOT_WIDTH;
+use layout::SLOTS_AT;
+use layout::USED_AT;
+use layout::VALUE_AT;
+use layout::VLEN_AT;
+use layout::WIDTH_AT;
 use wire::Comparison;
 use wire::all_zero;
 use wire::compare;
@@ -22,8 +41,9 @@ ghost use Prim.Native.Nat.{_<_};
 ghost use lib.ListN.{length, drop};
 ghost use Rattle.checksum.specs.Table.{crcTable};
 ghost use Rattle.entry.specs.Entry.{entryOf};
+ghost use Rattle.image.specs.Layout.{headerWidth, keyAt};
 ghost use Rattle.image.specs.Image.{slotHead, keyIn, flagIn, valueIn, stampIn, slotsOf, usedOf, entriesOf, ascending, sound};
-ghost use Rattle.image.specs.Slot.{slotAt, slotWith};
+ghost use Rattle.image.specs.Slot.{slotAt, slotWith, headerWith};
 ghost use Rattle.image.specs.Check.{Lengths, sealed, slotSound, slotsSound, shaped};
 
 // How many slots a store says it has.
@@ -31,7 +51,7 @@ pub fn slot_count(store: &[u8]) -> usize
     ensures is { λ r. ⌜ r ≡ slotsOf (now (store .entry)) ⌝ }
     ensures small { λ r. ⌜ r < 65536 ⌝ }
 {
-    number(store, 0, 2) as usize
+    number(store, SLOTS_AT, 2) as usize
 }
 
 // How many of them it says are used.
@@ -39,7 +59,7 @@ pub fn used_count(store: &[u8]) -> usize
     ensures is { λ r. ⌜ r ≡ usedOf (now (store .entry)) ⌝ }
     ensures small { λ r. ⌜ r < 65536 ⌝ }
 {
-    number(store, 2, 2) as usize
+    number(store, USED_AT, 2) as usize
 }
 
 // Slot i of a store, as much of it as there is.
@@ -47,45 +67,45 @@ pub fn slot(store: &[u8], i: usize) -> &[u8]
     ensures { λ r. ⌜ now r ≡ slotAt i (now (store .entry)) ⌝ }
 {
     let n = store.len();
-    if n < 16 {
+    if n < HEADER_WIDTH {
         return &store[n..n];
     }
-    if (n - 16) / 596 < i {
+    if (n - HEADER_WIDTH) / SLOT_WIDTH < i {
         return &store[n..n];
     }
-    part(store, 16 + 596 * i, 596)
+    part(store, HEADER_WIDTH + SLOT_WIDTH * i, SLOT_WIDTH)
 }
 
 // The key that a slot holds.
 pub fn slot_key(slot: &[u8]) -> &[u8]
     ensures { λ r. ⌜ now r ≡ keyIn (now (slot .entry)) ⌝ }
 {
-    let n = number(slot, 0, 1) as usize;
-    part(part(slot, 16, 64), 0, n)
+    let n = number(slot, KLEN_AT, 1) as usize;
+    part(part(slot, KEY_AT, MAX_KEY), 0, n)
 }
 
 // The flag that a slot holds.
 pub fn slot_flag(slot: &[u8]) -> u8
     ensures { λ r. ⌜ r ≡ flagIn (now (slot .entry)) ⌝ }
 {
-    number(slot, 1, 1) as u8
+    number(slot, FLAG_AT, 1) as u8
 }
 
 // The value that a slot holds.
 pub fn slot_value(slot: &[u8]) -> &[u8]
     ensures { λ r. ⌜ now r ≡ valueIn (now (slot .entry)) ⌝ }
 {
-    let n = number(slot, 2, 2) as usize;
-    part(part(slot, 80, 512), 0, n)
+    let n = number(slot, VLEN_AT, 2) as usize;
+    part(part(slot, VALUE_AT, MAX_VALUE), 0, n)
 }
 
 // The stamp that a slot holds.
 pub fn slot_stamp(slot: &[u8]) -> Stamp
     ensures { λ r. ⌜ r ≡ stampIn (now (slot .entry)) ⌝ }
 {
-    let phys = number(slot, 4, 6);
-    let logical = number(slot, 10, 2) as u16;
-    let node = number(slot, 12, 1) as u8;
+    let phys = number(slot, PHYS_AT, 6);
+    let logical = number(slot, LOGICAL_AT, 2) as u16;
+    let node = number(slot, NODE_AT, 1) as u8;
     Stamp {
         phys,
         logical,
@@ -93,34 +113,34 @@ pub fn slot_stamp(slot: &[u8]) -> Stamp
     }
 }
 
-// Writes a slot's first 16 bytes.
+// Writes a slot's bytes before the key.
 fn put_head(head: &mut [u8], key: &[u8], value: &[u8], flag: u8, stamp: Stamp)
-    requires { ⌜ length (now head) ≡ 16 ⌝ }
+    requires { ⌜ length (now head) ≡ keyAt ⌝ }
     ensures { λ _. ⌜ now (head .exit) ≡ slotHead (entryOf (now (key .entry)) (now (value .entry)) flag stamp) ⌝ }
 {
     let logical = stamp.logical;
     let node = stamp.node;
-    put_be(&mut head[0..1], key.len() as u64);
-    put_be(&mut head[1..2], flag as u64);
-    put_be(&mut head[2..4], value.len() as u64);
-    put_be(&mut head[4..10], stamp.phys);
-    put_be(&mut head[10..12], logical as u64);
-    put_be(&mut head[12..13], node as u64);
-    put_be(&mut head[13..16], 0);
+    put_be(&mut head[KLEN_AT..FLAG_AT], key.len() as u64);
+    put_be(&mut head[FLAG_AT..VLEN_AT], flag as u64);
+    put_be(&mut head[VLEN_AT..PHYS_AT], value.len() as u64);
+    put_be(&mut head[PHYS_AT..LOGICAL_AT], stamp.phys);
+    put_be(&mut head[LOGICAL_AT..NODE_AT], logical as u64);
+    put_be(&mut head[NODE_AT..SLOT_FILL_AT], node as u64);
+    put_be(&mut head[SLOT_FILL_AT..KEY_AT], 0);
 }
 
-// Writes an entry over a slot, 596 bytes. Any other number of bytes stays as it is.
+// Writes an entry over a slot. Bytes that are no slot stay as they are.
 pub fn put_slot(slot: &mut [u8], key: &[u8], value: &[u8], flag: u8, stamp: Stamp)
     ensures { λ _. ⌜ now (slot .exit) ≡ slotWith (entryOf (now (key .entry)) (now (value .entry)) flag stamp) (now (slot .entry)) ⌝ }
 {
-    if slot.len() != 596 {
+    if slot.len() != SLOT_WIDTH {
         return;
     }
-    put_head(&mut slot[0..16], key, value, flag, stamp);
-    put_padded(&mut slot[16..80], key);
-    put_padded(&mut slot[80..592], value);
-    let sum = crc32c(&slot[0..592]);
-    put_be(&mut slot[592..596], sum as u64);
+    put_head(&mut slot[0..KEY_AT], key, value, flag, stamp);
+    put_padded(&mut slot[KEY_AT..VALUE_AT], key);
+    put_padded(&mut slot[VALUE_AT..BODY_WIDTH], value);
+    let sum = crc32c(&slot[0..BODY_WIDTH]);
+    put_be(&mut slot[BODY_WIDTH..SLOT_WIDTH], sum as u64);
 }
 
 // Whether the zero fill and the checksum of a slot are right, its lengths being within their fields.
@@ -128,16 +148,16 @@ fn is_sealed(crcs: &Table, slot: &[u8], klen: usize, vlen: usize) -> bool
     requires { ⌜ (now crcs ≡ crcTable) × Lengths (now slot) klen vlen ⌝ }
     ensures { λ r. ⌜ r ≡ sealed (now (slot .entry)) ⌝ }
 {
-    if !all_zero(part(slot, 13, 3)) {
+    if !all_zero(part(slot, SLOT_FILL_AT, 3)) {
         return false;
     }
-    if !all_zero(part(slot, 16 + klen, 64 - klen)) {
+    if !all_zero(part(slot, KEY_AT + klen, MAX_KEY - klen)) {
         return false;
     }
-    if !all_zero(part(slot, 80 + vlen, 512 - vlen)) {
+    if !all_zero(part(slot, VALUE_AT + vlen, MAX_VALUE - vlen)) {
         return false;
     }
-    crc32c_with(crcs, part(slot, 0, 592)) as u64 == number(slot, 592, 4)
+    crc32c_with(crcs, part(slot, 0, BODY_WIDTH)) as u64 == number(slot, BODY_WIDTH, 4)
 }
 
 // Whether a slot is sound: its entry is acceptable, and its bytes are those of the entry's slot.
@@ -145,11 +165,11 @@ fn is_sound_slot(crcs: &Table, slot: &[u8]) -> bool
     requires { ⌜ now crcs ≡ crcTable ⌝ }
     ensures { λ r. ⌜ r ≡ slotSound (now (slot .entry)) ⌝ }
 {
-    if slot.len() != 596 {
+    if slot.len() != SLOT_WIDTH {
         return false;
     }
-    let klen = number(slot, 0, 1) as usize;
-    let vlen = number(slot, 2, 2) as usize;
+    let klen = number(slot, KLEN_AT, 1) as usize;
+    let vlen = number(slot, VLEN_AT, 2) as usize;
     if MAX_KEY < klen {
         return false;
     }
@@ -171,7 +191,7 @@ fn is_sound_slot(crcs: &Table, slot: &[u8]) -> bool
 // Whether each used slot is sound.
 fn slots_sound(crcs: &Table, store: &[u8]) -> bool
     requires { ⌜ now crcs ≡ crcTable ⌝ }
-    ensures { λ r. ⌜ r ≡ slotsSound (usedOf (now (store .entry))) (drop 16 (now (store .entry))) ⌝ }
+    ensures { λ r. ⌜ r ≡ slotsSound (usedOf (now (store .entry))) (drop headerWidth (now (store .entry))) ⌝ }
 {
     let used = used_count(store);
     let mut i = 0;
@@ -201,6 +221,20 @@ fn keys_ascend(store: &[u8]) -> bool
     true
 }
 
+// Writes the header of a store of `slots` slots, none of them used. Bytes that are no header stay as they are.
+pub fn put_header(head: &mut [u8], slots: usize)
+    ensures { λ _. ⌜ now (head .exit) ≡ headerWith slots 0 (now (head .entry)) ⌝ }
+{
+    if head.len() != HEADER_WIDTH {
+        return;
+    }
+    put_be(&mut head[SLOTS_AT..USED_AT], slots as u64);
+    put_be(&mut head[USED_AT..WIDTH_AT], 0);
+    put_be(&mut head[WIDTH_AT..FIRST_AT], SLOT_WIDTH as u64);
+    put_be(&mut head[FIRST_AT..HEADER_FILL_AT], HEADER_WIDTH as u64);
+    put_be(&mut head[HEADER_FILL_AT..HEADER_WIDTH], 0);
+}
+
 // Whether the header is right, and the buffer as long as its slots ask.
 fn is_shaped(store: &[u8]) -> bool
     ensures { λ r. ⌜ r ≡ shaped (now (store .entry)) ⌝ }
@@ -209,22 +243,22 @@ fn is_shaped(store: &[u8]) -> bool
     if slots < 1 {
         return false;
     }
-    if 100 < slots {
+    if MAX_SLOTS < slots {
         return false;
     }
     if slots < used_count(store) {
         return false;
     }
-    if store.len() != 16 + 596 * slots {
+    if store.len() != HEADER_WIDTH + SLOT_WIDTH * slots {
         return false;
     }
-    if number(store, 4, 2) != 596 {
+    if number(store, WIDTH_AT, 2) != SLOT_WIDTH as u64 {
         return false;
     }
-    if number(store, 6, 2) != 16 {
+    if number(store, FIRST_AT, 2) != HEADER_WIDTH as u64 {
         return false;
     }
-    all_zero(part(store, 8, 8))
+    all_zero(part(store, HEADER_FILL_AT, 8))
 }
 
 // Whether a store is sound.
@@ -241,6 +275,6 @@ pub fn is_sound(store: &[u8]) -> bool
     if !keys_ascend(store) {
         return false;
     }
-    let unused = 16 + 596 * used_count(store);
+    let unused = HEADER_WIDTH + SLOT_WIDTH * used_count(store);
     all_zero(part(store, unused, store.len()))
 }

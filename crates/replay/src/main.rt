@@ -2,6 +2,7 @@
 // What decides is in the libraries: cut_record finds a record, and handle answers it. Here bytes are only moved.
 use clock::Clock;
 use frame::write_err;
+use image::layout::MAX_SLOTS;
 use journal::Cut;
 use journal::cut_record;
 use libc::STDIN_FILENO;
@@ -209,6 +210,6 @@ fn run(store: &mut [u8], reply: &mut [u8])
 fn main() {
     let mut store = [0; 59616];
     let mut reply = [0; 600];
-    store::create(&mut store, 100);
+    store::create(&mut store, MAX_SLOTS);
     run(&mut store, &mut reply);
 }

@@ -7,6 +7,7 @@ use mathlib.Core.Bool.{Bool, true, false, cond}
 use mathlib.Core.List.{List, [], _∷_, _++_, append-nil}
 use mathlib.Core.Option.{Option, none, some}
 use lib.ListN.{length, drop, drop-of-length-le}
+use lib.Dec.{eqb}
 use borrow.Author.Tests.{eq-eqb, ne-eqb, lt-ltb, le-ltb, le-leb, lt-leb}
 use Rattle.wire.specs.Fill.{zeros}
 use Rattle.entry.specs.declared.Refusal.{Refusal}
@@ -16,9 +17,10 @@ use Rattle.entry.specs.Refusal.{number}
 use Rattle.entry.specs.Acceptance.{refusalNumber}
 use Rattle.entry.specs.Key.{badKey}
 use Rattle.entry.specs.Entry.{Entry, beats, refusalOf}
+use Rattle.entry.proofs.Numbers.{number-not-0}
+use Rattle.image.specs.Layout.{slotWidth, mostSlots, slotStart}
 use Rattle.image.specs.Image.{image, header, slots, slotEntry, flagIn, valueIn, slotsOf, usedOf, entriesOf, sound}
 use Rattle.image.specs.Slot.{slotAt}
-use Rattle.image.proofs.Refusals.{number-not-zero}
 use Rattle.image.proofs.ImageLaws.{entry-at, used-is}
 use Rattle.store.specs.Held.{putAll}
 use Rattle.store.specs.Answer.{Answer, stored, replaced, kept, merged, refused, isRefused}
@@ -39,27 +41,27 @@ module _ (s : List ℕ) (c : ℕ) where
   create-few h = (sym (rw (lt-ltb c 1 h)), sym (rw (lt-ltb c 1 h)))
 
   module _ (lo : 1 ≤ c) where
-    pub create-many : 100 < c → (17 ≡ createRefusal s c) × (s ≡ afterCreate s c)
+    pub create-many : mostSlots < c → (17 ≡ createRefusal s c) × (s ≡ afterCreate s c)
     unfolding createRefusal afterCreate
-    create-many h = (sym (rw (le-ltb c 1 lo, lt-ltb 100 c h)), sym (rw (le-ltb c 1 lo, lt-ltb 100 c h)))
+    create-many h = (sym (rw (le-ltb c 1 lo, lt-ltb mostSlots c h)), sym (rw (le-ltb c 1 lo, lt-ltb mostSlots c h)))
 
-    module _ (hi : c ≤ 100) where
-      pub create-size : (length s ≡ 16 + 596 * c → ⊥) → (4 ≡ createRefusal s c) × (s ≡ afterCreate s c)
+    module _ (hi : c ≤ mostSlots) where
+      pub create-size : (length s ≡ slotStart c → ⊥) → (4 ≡ createRefusal s c) × (s ≡ afterCreate s c)
       unfolding createRefusal afterCreate
       create-size h =
-          let q = ne-eqb (length s) (16 + 596 * c) h in
-          (sym (rw (le-ltb c 1 lo, le-ltb 100 c hi, q)), sym (rw (le-ltb c 1 lo, le-ltb 100 c hi, q)))
+          let q = ne-eqb (length s) (slotStart c) h in
+          (sym (rw (le-ltb c 1 lo, le-ltb mostSlots c hi, q)), sym (rw (le-ltb c 1 lo, le-ltb mostSlots c hi, q)))
 
-      pub create-done : length s ≡ 16 + 596 * c → (t : List ℕ) → t ≡ freshStore c → (0 ≡ createRefusal s c) × (t ≡ afterCreate s c)
+      pub create-done : length s ≡ slotStart c → (t : List ℕ) → t ≡ freshStore c → (0 ≡ createRefusal s c) × (t ≡ afterCreate s c)
       unfolding createRefusal afterCreate
       create-done h t e =
-          let q = eq-eqb (length s) (16 + 596 * c) h in
-          (sym (rw (le-ltb c 1 lo, le-ltb 100 c hi, q)), e ∙ sym (rw (le-ltb c 1 lo, le-ltb 100 c hi, q)))
+          let q = eq-eqb (length s) (slotStart c) h in
+          (sym (rw (le-ltb c 1 lo, le-ltb mostSlots c hi, q)), e ∙ sym (rw (le-ltb c 1 lo, le-ltb mostSlots c hi, q)))
 
-pub fresh-bytes : (c n : ℕ) → n ≡ 596 * c → header c 0 ++ zeros n ≡ freshStore c
+pub fresh-bytes : (c n : ℕ) → n ≡ slotWidth * c → header c 0 ++ zeros n ≡ freshStore c
 unfolding freshStore image slots
 fresh-bytes c n e =
-    let z : n ≡ 596 * (c - 0) = omega arith in
+    let z : n ≡ slotWidth * (c - 0) = omega arith in
     ap (λ (m : ℕ). header c 0 ++ zeros m) z ∙ sym (rw append-nil)
 
 -- ---- a key sought
@@ -144,7 +146,7 @@ module _ (s : List ℕ) (e : Entry) where
     unfolding offerUnchecked afterOfferUnchecked
     offer-refused r h =
         let n : refusalOf e ≡ number r = sym ve ∙ ap refusalNumber h in
-        let q = ne-eqb (refusalOf e) 0 (λ z. number-not-zero r (sym n ∙ z)) in
+        let q : eqb (refusalOf e) 0 ≡ false = rw n (number-not-0 r) in
         (sym (rw (q, n)), sym (rw q))
 
     pub offer-placed : v ≡ acceptance.Acceptable → (a : Answer) (t : List ℕ) → a ≡ placedAnswer s e → t ≡ afterPlaced s e → (a ≡ offerUnchecked s e) × (t ≡ afterOfferUnchecked s e)

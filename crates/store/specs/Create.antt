@@ -5,6 +5,7 @@ use mathlib.Core.List.{List, []}
 use lib.ListN.{length}
 use lib.Dec.{ltb, eqb}
 use Rattle.entry.specs.Refusal.{number}
+use Rattle.image.specs.Layout.{mostSlots, slotStart}
 use Rattle.image.specs.Image.{image}
 use Rattle.store.specs.declared.Created.{Created}
 use Rattle.store.specs.declared.Created.the-variants.{Fresh, Refused}
@@ -17,8 +18,8 @@ createdNumber (Refused r) = number r
 -- 17 if the slots are not 1 to 100, then 4 if the buffer isn't its exact length
 unfoldable pub createRefusal : List ℕ → ℕ → ℕ
 createRefusal buffer slots =
-    cond (ltb slots 1 || ltb 100 slots) 17
-    (cond (not (eqb (length buffer) (16 + 596 * slots))) 4
+    cond (ltb slots 1 || ltb mostSlots slots) 17
+    (cond (not (eqb (length buffer) (slotStart slots))) 4
     0)
 
 -- a store of c slots that holds nothing

@@ -6,6 +6,7 @@ use mathlib.Core.Bool.{true, cond}
 use mathlib.Core.List.{List, []}
 use lib.Dec.{eqb}
 use Rattle.entry.specs.Entry.{Entry}
+use Rattle.image.specs.Layout.{mostSlots}
 use Rattle.image.specs.Image.{slotsOf, entriesOf, sound}
 use Rattle.store.specs.Held.{put, putAll}
 use Rattle.store.specs.Answer.{stored, replaced, kept, isRefused}
@@ -27,7 +28,7 @@ pub record Keeps (s : List ℕ) (es : List Entry) (t : List ℕ) : Type 0 where
 
 -- a fresh store is sound and holds nothing
 abbrev pub FreshKeeps : Type 0
-FreshKeeps = (c : ℕ) → 1 ≤ c → c ≤ 100 → (sound (freshStore c) ≡ true) × (slotsOf (freshStore c) ≡ c) × (entriesOf (freshStore c) ≡ [])
+FreshKeeps = (c : ℕ) → 1 ≤ c → c ≤ mostSlots → (sound (freshStore c) ≡ true) × (slotsOf (freshStore c) ≡ c) × (entriesOf (freshStore c) ≡ [])
 
 -- an offer leaves a sound store sound
 abbrev pub OfferKeeps : Type 0

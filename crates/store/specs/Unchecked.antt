@@ -12,6 +12,7 @@ use Rattle.wire.specs.Order.{sameBytes}
 use Rattle.entry.specs.Key.{badKey}
 use Rattle.entry.specs.Order.{keyBelow}
 use Rattle.entry.specs.Entry.{Entry, beats, refusalOf}
+use Rattle.image.specs.Layout.{usedAt, widthAt, slotWidth, slotStart}
 use Rattle.image.specs.Image.{slotBytes, slotsOf, usedOf, entriesOf, sound}
 use Rattle.store.specs.Answer.{Answer, stored, replaced, kept, refused}
 use Rattle.store.specs.Lookup.{Finding, findingFor, valueFor, lookupAnswer, valuePart}
@@ -55,14 +56,14 @@ splice a e w s = take a s ++ w ++ drop e s
 
 -- an entry written over slot i; bytes that have no slot i stay
 unfoldable pub replaceAt : ℕ → Entry → List ℕ → List ℕ
-replaceAt i e s = cond (leb (612 + 596 * i) (length s)) (splice (16 + 596 * i) (612 + 596 * i) (slotBytes e) s) s
+replaceAt i e s = cond (leb (slotStart (i + 1)) (length s)) (splice (slotStart i) (slotStart (i + 1)) (slotBytes e) s) s
 
 -- the used slots from i on moved up by one, an entry written before them, and U raised; bytes that have no room for it stay
 unfoldable pub insertAt : ℕ → Entry → List ℕ → List ℕ
 insertAt i e s =
-    cond (leb i (usedOf s) && leb (612 + 596 * usedOf s) (length s))
-    (splice 2 4 (be 2 (usedOf s + 1))
-    (splice (16 + 596 * i) (612 + 596 * usedOf s) (slotBytes e ++ field (16 + 596 * i) (596 * (usedOf s - i)) s) s))
+    cond (leb i (usedOf s) && leb (slotStart (usedOf s + 1)) (length s))
+    (splice usedAt widthAt (be 2 (usedOf s + 1))
+    (splice (slotStart i) (slotStart (usedOf s + 1)) (slotBytes e ++ field (slotStart i) (slotWidth * (usedOf s - i)) s) s))
     s
 
 -- ---- offering an acceptable entry

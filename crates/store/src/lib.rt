@@ -8,6 +8,10 @@ use entry::TOMBSTONE;
 use entry::is_acceptable_key;
 use entry::judge;
 use image::is_sound;
+use image::layout::HEADER_WIDTH;
+use image::layout::MAX_SLOTS;
+use image::layout::SLOT_WIDTH;
+use image::put_header;
 use image::slot;
 use image::slot_count;
 use image::slot_flag;
@@ -19,7 +23,6 @@ use wire::Comparison;
 use wire::compare;
 use wire::put_be;
 use write::insert;
-use write::put_header;
 use write::replace;
 ghost use mathlib.Core.Path.{_≡_};
 ghost use mathlib.Core.Bool.{cond};
@@ -74,15 +77,15 @@ pub fn create(buffer: &mut [u8], slots: usize) -> Created
     if slots < 1 {
         return Created::Refused(Refusal::BadArgument);
     }
-    if 100 < slots {
+    if MAX_SLOTS < slots {
         return Created::Refused(Refusal::BadArgument);
     }
     let n = buffer.len();
-    if n != 16 + 596 * slots {
+    if n != HEADER_WIDTH + SLOT_WIDTH * slots {
         return Created::Refused(Refusal::NoRoom);
     }
-    put_header(&mut buffer[0..16], slots);
-    put_be(&mut buffer[16..n], 0);
+    put_header(&mut buffer[0..HEADER_WIDTH], slots);
+    put_be(&mut buffer[HEADER_WIDTH..n], 0);
     Created::Fresh
 }
 

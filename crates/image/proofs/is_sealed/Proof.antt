@@ -5,6 +5,7 @@ use mathlib.Core.Path.{ap, _∙_}
 use Prim.Native.Nat.{_+_, _-_}
 use Rattle.wire.proofs.Fill.{length-field}
 use Rattle.checksum.specs.Crc32c.{crc32c}
+use Rattle.image.specs.Layout.{keyAt, keyWidth, valueAt, valueWidth}
 use Rattle.image.proofs.Sealing.{zero-is, zero-test, bad-fill, bad-key-fill, bad-value-fill, sealed-by-sum}
 use Rattle.image.proofs.is_sealed.Statement.{statement}
 use Rattle.image.proofs.is_sealed.Tie as tie
@@ -73,8 +74,8 @@ returns-4 c =
     let p = c .before .before .before .before .before .before .before .before .before .before .before .before .before .pre .1 in
     sealed-by-sum s (a .klen) (a .vlen) p (λ i. c .before .before .before .before .before .before .before .before .before .before .before .before .shared-slice-known .given i .fits)
     (zero-is 3 _ (length-field 13 3 s (omega (arith, p .long))) (zero-test _ _ _ (c .before .before .before .before .before .before .before .before .before .before .all-zero .ensures) (c .before .before .before .before .before .before .before .before .before .before .before .part .ensures) ∙ not-false _ (c .before .before .before .before .before .before .before .before .before .if1 .left)))
-    (zero-is (64 - a .klen) _ (length-field (16 + a .klen) (64 - a .klen) s (omega (arith, p .long, p .key-fits))) (zero-test _ _ _ (c .before .before .before .before .before .before .before .all-zero2 .ensures) (c .before .before .before .before .before .before .before .before .part2 .ensures) ∙ not-false _ (c .before .before .before .before .before .before .if2 .left)))
-    (zero-is (512 - a .vlen) _ (length-field (80 + a .vlen) (512 - a .vlen) s (omega (arith, p .long, p .value-fits))) (zero-test _ _ _ (c .before .before .before .before .all-zero3 .ensures) (c .before .before .before .before .before .part3 .ensures) ∙ not-false _ (c .before .before .before .if3 .left)))
+    (zero-is (keyWidth - a .klen) _ (length-field (keyAt + a .klen) (keyWidth - a .klen) s (omega (arith, p .long, p .key-fits))) (zero-test _ _ _ (c .before .before .before .before .before .before .before .all-zero2 .ensures) (c .before .before .before .before .before .before .before .before .part2 .ensures) ∙ not-false _ (c .before .before .before .before .before .before .if2 .left)))
+    (zero-is (valueWidth - a .vlen) _ (length-field (valueAt + a .vlen) (valueWidth - a .vlen) s (omega (arith, p .long, p .value-fits))) (zero-test _ _ _ (c .before .before .before .before .all-zero3 .ensures) (c .before .before .before .before .before .part3 .ensures) ∙ not-false _ (c .before .before .before .if3 .left)))
     (c .before .crc32c-with .result) (c .number .result) (c .before .crc32c-with .ensures .by-bits (c .before .before .before .before .before .before .before .before .before .before .before .before .before .pre .0) ∙ ap crc32c (c .before .before .part4 .ensures)) (omega (arith, c .before .crc32c-with .ok)) (c .number .ensures .is)
 
 pub is-sealed-spec : {M : Type 1} → statement M

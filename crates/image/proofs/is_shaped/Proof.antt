@@ -2,6 +2,7 @@ use borrow.Author.Needs.{needs}
 use native.Mathlib.Omega.{arith}
 use mathlib.Core.Path.{sym, ap, _∙_}
 use Prim.Native.Nat.{ℕ, _+_, _*_}
+use Rattle.image.specs.Layout.{slotStart}
 use Rattle.image.proofs.Soundness.{bad-some, bad-most, bad-room, bad-size, bad-width, bad-offset, shaped-by-rest}
 use Rattle.image.proofs.Sealing.{zero-test}
 use Rattle.image.proofs.is_shaped.Statement.{statement}
@@ -56,7 +57,7 @@ returns-7 c =
     let u = c .before .before .before .before .before .before .before .before .used-count in
     sym (zero-test _ _ _ (c .all-zero .ensures) (c .before .part .ensures)) ∙ shaped-by-rest s (λ i. c .before .before .before .before .before .before .before .before .before .before .before .before .shared-slice-known .given i .fits)
     (omega (arith, n .ensures .0, c .before .before .before .before .before .before .before .before .before .before .if1 .left)) (omega (arith, n .ensures .0, c .before .before .before .before .before .before .before .before .before .if2 .left)) (omega (arith, n .ensures .0, u .ensures .0, c .before .before .before .before .before .before .before .if3 .left))
-    (c .before .before .before .before .before .before .if4 .left ∙ ap (λ (m : ℕ). 16 + 596 * m) (n .ensures .0)) (sym (c .before .before .before .before .before .number .ensures .is) ∙ c .before .before .before .before .if5 .left) (sym (c .before .before .before .number2 .ensures .is) ∙ c .before .before .if6 .left)
+    (c .before .before .before .before .before .before .if4 .left ∙ ap slotStart (n .ensures .0)) (sym (c .before .before .before .before .before .number .ensures .is) ∙ c .before .before .before .before .if5 .left) (sym (c .before .before .before .number2 .ensures .is) ∙ c .before .before .if6 .left)
 
 pub is-shaped-spec : {M : Type 1} → statement M
 is-shaped-spec =

@@ -4,6 +4,7 @@ use mathlib.Core.Path.{sym, ap, _∙_}
 use Prim.Native.Nat.{ℕ, _+_, _*_}
 use lib.ListN.{length}
 use Rattle.wire.specs.Fill.{field}
+use Rattle.image.specs.Layout.{slotStart}
 use Rattle.image.proofs.Soundness.{bad-shape, bad-slots, bad-keys, shape-of, sound-by-rest}
 use Rattle.image.proofs.is_sound.Statement.{statement}
 use Rattle.image.proofs.is_sound.Tie as tie
@@ -48,7 +49,7 @@ returns-4 : tie.Need-returns-4
 returns-4 c =
     let s = c .before .before .before .before .before .before .before .before .before .before .before .before .args .store .now in
     c .all-zero .ensures ∙ sound-by-rest s (shape-of s (sym (c .before .before .before .before .before .before .before .before .before .before .is-shaped .ensures) ∙ not-false _ (c .before .before .before .before .before .before .before .before .before .if1 .left))) (sym (c .before .before .before .before .before .before .slots-sound .ensures) ∙ not-false _ (c .before .before .before .before .before .if2 .left)) (sym (c .before .before .before .before .keys-ascend .ensures) ∙ not-false _ (c .before .before .before .if3 .left)) _
-    (c .before .part .ensures ∙ ap (λ (u : ℕ). field (16 + 596 * u) (length s) s) (c .before .before .used-count .ensures .0))
+    (c .before .part .ensures ∙ ap (λ (u : ℕ). field (slotStart u) (length s) s) (c .before .before .used-count .ensures .0))
 
 pub is-sound-spec : {M : Type 1} → statement M
 is-sound-spec =

@@ -1,14 +1,9 @@
 use borrow.Author.Needs.{needs}
 use native.Mathlib.Omega.{arith}
-use mathlib.Core.Path.{_≡_, _∙_}
-use Prim.Native.Nat.{ℕ}
 use lib.ListN.{length}
-use Rattle.wire.specs.Fill.{zeros}
-use Rattle.wire.specs.Number.{be}
-use Rattle.wire.proofs.Writing.{written-none, write-next, written-all}
-use Rattle.wire.proofs.Fill.{length-zeros, be-zeros}
-use Rattle.wire.proofs.Number.{length-be}
+use Rattle.wire.proofs.Writing.{written-none}
 use Rattle.image.specs.Image.{slotHead}
+use Rattle.image.proofs.Writing.{write-number, write-fill}
 use Rattle.image.proofs.put_head.Statement.{statement}
 use Rattle.image.proofs.put_head.Tie as tie
 
@@ -108,18 +103,23 @@ same-length c = search needs
 returns : tie.Need-returns
 unfolding slotHead
 returns c =
-    let a = c .before .before .before .before .before .before .before .before .before .before .before .before .before .before .before .before .before .before .before .before .before .before .before .before .before .before .before .before .before .before .before .args in
+    let p7 = c .before .before in
+    let p6 = p7 .before .before .before .before in
+    let p5 = p6 .before .before .before .before in
+    let p4 = p5 .before .before .before .before in
+    let p3 = p4 .before .before .before .before in
+    let p2 = p3 .before .before .before .before in
+    let p1 = p2 .before .before .before .before in
+    let start = p1 .before .before .before .before .before in
+    let a = start .args in
     let h = a .head .now in
-    let n : length h ≡ 16 = c .before .before .before .before .before .before .before .before .before .before .before .before .before .before .before .before .before .before .before .before .before .before .before .before .before .before .before .before .before .before .before .pre in
-    let w0 = written-none h in
-    let w1 = write-next (λ (w : ℕ). be w (length (a .key .now))) 0 1 _ h _ _ (length-be 1 _) (omega arith) w0 (c .before .before .before .before .before .before .before .before .before .before .before .before .before .before .before .before .before .before .before .before .before .before .before .before .before .before .put-be .ensures) in
-    let w2 = write-next (λ (w : ℕ). be w (a .flag)) 1 1 _ h _ _ (length-be 1 _) (omega arith) w1 (c .before .before .before .before .before .before .before .before .before .before .before .before .before .before .before .before .before .before .before .before .before .before .put-be2 .ensures) in
-    let w3 = write-next (λ (w : ℕ). be w (length (a .value .now))) 2 2 _ h _ _ (length-be 2 _) (omega arith) w2 (c .before .before .before .before .before .before .before .before .before .before .before .before .before .before .before .before .before .before .put-be3 .ensures) in
-    let w4 = write-next (λ (w : ℕ). be w (a .stamp .phys)) 4 6 _ h _ _ (length-be 6 _) (omega arith) w3 (c .before .before .before .before .before .before .before .before .before .before .before .before .before .before .put-be4 .ensures) in
-    let w5 = write-next (λ (w : ℕ). be w (a .stamp .logical)) 10 2 _ h _ _ (length-be 2 _) (omega arith) w4 (c .before .before .before .before .before .before .before .before .before .before .put-be5 .ensures) in
-    let w6 = write-next (λ (w : ℕ). be w (a .stamp .node)) 12 1 _ h _ _ (length-be 1 _) (omega arith) w5 (c .before .before .before .before .before .before .put-be6 .ensures) in
-    let w7 = write-next zeros 13 3 _ h _ _ (length-zeros 3) (omega arith) w6 (c .before .before .put-be7 .ensures ∙ be-zeros _) in
-    written-all 16 _ h _ n w7
+    let w1 = write-number h 0 1 _ _ _ (written-none h) (length (a .key .now)) (omega (arith, start .pre)) (p1 .put-be .ensures) in
+    let w2 = write-number h 1 1 _ _ _ w1 (a .flag) (omega (arith, start .pre)) (p2 .put-be2 .ensures) in
+    let w3 = write-number h 2 2 _ _ _ w2 (length (a .value .now)) (omega (arith, start .pre)) (p3 .put-be3 .ensures) in
+    let w4 = write-number h 4 6 _ _ _ w3 (a .stamp .phys) (omega (arith, start .pre)) (p4 .put-be4 .ensures) in
+    let w5 = write-number h 10 2 _ _ _ w4 (a .stamp .logical) (omega (arith, start .pre)) (p5 .put-be5 .ensures) in
+    let w6 = write-number h 12 1 _ _ _ w5 (a .stamp .node) (omega (arith, start .pre)) (p6 .put-be6 .ensures) in
+    write-fill h 13 3 _ _ _ w6 (start .pre) (p7 .put-be7 .ensures)
 
 pub put-head-spec : {M : Type 1} → statement M
 put-head-spec =

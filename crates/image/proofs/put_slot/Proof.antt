@@ -13,6 +13,7 @@ use Rattle.wire.proofs.Fill.{length-padded}
 use Rattle.wire.proofs.Number.{length-be}
 use Rattle.checksum.specs.Crc32c.{crc32c}
 use Rattle.entry.specs.Entry.{entryOf}
+use Rattle.image.specs.Layout.{keyAt, keyWidth, valueAt, valueWidth, bodyWidth, slotWidth}
 use Rattle.image.specs.Slot.{slotWith}
 use Rattle.image.specs.Image.{slotHead, slotBody, slotBytes}
 use Rattle.image.proofs.SlotLaws.{length-head}
@@ -21,7 +22,7 @@ use Rattle.image.proofs.put_slot.Tie as tie
 
 returns : tie.Need-returns
 unfolding slotWith
-returns c = sym (rw (ne-eqb (length (c .before .before .before .before .args .slot .now)) 596 (c .if1 .taken)))
+returns c = sym (rw (ne-eqb (length (c .before .before .before .before .args .slot .now)) slotWidth (c .if1 .taken)))
 
 sub-put-head : tie.Need-sub-put-head
 sub-put-head c = search needs
@@ -94,14 +95,14 @@ unfolding slotWith slotBytes slotBody
 returns-2 c =
     let a = c .before .before .before .before .before .before .before .before .before .before .before .before .before .before .before .before .before .before .before .before .before .before .before .args in
     let s = a .slot .now in
-    let n : length s ≡ 596 = c .before .before .before .before .before .before .before .before .before .before .before .before .before .before .before .before .before .before .before .if1 .left in
+    let n : length s ≡ slotWidth = c .before .before .before .before .before .before .before .before .before .before .before .before .before .before .before .before .before .before .before .if1 .left in
     let e = entryOf (a .key .now) (a .value .now) (a .flag) (a .stamp) in
-    let w1 = write-next (λ (w : ℕ). slotHead e) 0 16 _ s _ _ (length-head e) (omega arith) (written-none s) (c .before .before .before .before .before .before .before .before .before .before .before .before .before .before .before .before .before .put-head .ensures) in
-    let w2 = write-next (λ (w : ℕ). padded w (e .key)) 16 64 _ s _ _ (length-padded 64 _) (omega arith) w1 (c .before .before .before .before .before .before .before .before .before .before .before .before .before .put-padded .ensures) in
-    let w3 = write-next (λ (w : ℕ). padded w (e .value)) 80 512 _ s _ _ (length-padded 512 _) (omega arith) w2 (c .before .before .before .before .before .before .before .before .before .put-padded2 .ensures) in
-    let sum : c .before .before .before .before .crc32c .result ≡ crc32c (slotBody e) = c .before .before .before .before .crc32c .ensures ∙ ap crc32c (ap (take 592) (w3 .is) ∙ take-at (slotBody e) (drop 592 s) 592 (w3 .long)) in
-    let w4 = write-next (λ (w : ℕ). be w (c .before .before .before .before .crc32c .result)) 592 4 _ s _ _ (length-be 4 _) (omega arith) w3 (c .before .before .put-be .ensures) in
-    written-all 596 _ s _ n w4 ∙ ap (λ (x : ℕ). slotBody e ++ be 4 x) sum ∙ sym (rw (eq-eqb (length s) 596 n))
+    let w1 = write-next (λ (w : ℕ). slotHead e) 0 keyAt _ s _ _ (length-head e) (omega arith) (written-none s) (c .before .before .before .before .before .before .before .before .before .before .before .before .before .before .before .before .before .put-head .ensures) in
+    let w2 = write-next (λ (w : ℕ). padded w (e .key)) keyAt keyWidth _ s _ _ (length-padded keyWidth _) (omega arith) w1 (c .before .before .before .before .before .before .before .before .before .before .before .before .before .put-padded .ensures) in
+    let w3 = write-next (λ (w : ℕ). padded w (e .value)) valueAt valueWidth _ s _ _ (length-padded valueWidth _) (omega arith) w2 (c .before .before .before .before .before .before .before .before .before .put-padded2 .ensures) in
+    let sum : c .before .before .before .before .crc32c .result ≡ crc32c (slotBody e) = c .before .before .before .before .crc32c .ensures ∙ ap crc32c (ap (take bodyWidth) (w3 .is) ∙ take-at (slotBody e) (drop bodyWidth s) bodyWidth (w3 .long)) in
+    let w4 = write-next (λ (w : ℕ). be w (c .before .before .before .before .crc32c .result)) bodyWidth 4 _ s _ _ (length-be 4 _) (omega arith) w3 (c .before .before .put-be .ensures) in
+    written-all slotWidth _ s _ n w4 ∙ ap (λ (x : ℕ). slotBody e ++ be 4 x) sum ∙ sym (rw (eq-eqb (length s) slotWidth n))
 
 pub put-slot-spec : {M : Type 1} → statement M
 put-slot-spec =

@@ -3,6 +3,7 @@ use native.Mathlib.Omega.{arith}
 use mathlib.Core.Path.{_≡_, refl}
 use Prim.Native.Nat.{_+_, _-_, _*_}
 use lib.ListN.{length}
+use Rattle.image.specs.Layout.{slotWidth, slotStart}
 use Rattle.image.specs.Slot.{slotAt}
 use Rattle.image.proofs.Fields.{field-none}
 use Rattle.image.proofs.slot.Statement.{statement}
@@ -23,7 +24,7 @@ returns c =
     let a = c .before .before .before .args in
     let s = a .store .now in
     let z : length s - length s ≡ 0 = omega arith in
-    field-none (16 + 596 * a .i) 596 _ s (omega (arith, c .before .if1 .taken)) z _ refl
+    field-none (slotStart (a .i)) slotWidth _ s (omega (arith, c .before .if1 .taken)) z _ refl
 
 sub-result-2 : tie.Need-sub-result-2
 sub-result-2 c = search needs
@@ -40,7 +41,7 @@ returns-2 c =
     let a = c .before .before .before .before .args in
     let s = a .store .now in
     let z : length s - length s ≡ 0 = omega arith in
-    field-none (16 + 596 * a .i) 596 _ s (omega (arith, c .before .if2 .taken)) z _ refl
+    field-none (slotStart (a .i)) slotWidth _ s (omega (arith, c .before .if2 .taken)) z _ refl
 
 mul-part : tie.Need-mul-part
 mul-part c = search needs

@@ -4,6 +4,7 @@ use native.Mathlib.Omega.{arith}
 use mathlib.Core.Path.{_≡_, sym, ap, _∙_}
 use Prim.Native.Nat.{_-_}
 use lib.ListN.{drop}
+use Rattle.image.specs.Layout.{headerWidth}
 use Rattle.image.specs.Check.{slotSound, slotsSound}
 use Rattle.image.specs.Image.{usedOf}
 use Rattle.image.proofs.Soundness.{slotsLeft, run-none, run-next, run-bad, run-end}
@@ -11,7 +12,7 @@ use Rattle.image.proofs.slots_sound.Statement.{statement}
 use Rattle.image.proofs.slots_sound.Tie as tie
 
 abbrev Inv-loop : tie.InvT-loop
-Inv-loop crcs store used i₀ i = slotsLeft store i ≡ slotsSound (usedOf store) (drop 16 store)
+Inv-loop crcs store used i₀ i = slotsLeft store i ≡ slotsSound (usedOf store) (drop headerWidth store)
 
 abbrev μ-loop : tie.MeasureT-loop
 μ-loop crcs store used i₀ i = used - i

@@ -3,11 +3,13 @@ use native.Mathlib.Omega.{arith}
 use mathlib.Core.Path.{_≡_, _∙_}
 use Prim.Native.Nat.{ℕ, _+_, _-_, _*_}
 use lib.ListN.{length}
+use lib.Seq.{length-take-le}
 use Rattle.wire.specs.Fill.{zeros}
 use Rattle.wire.proofs.Writing.{written-none, write-next, written-all}
 use Rattle.wire.proofs.Fill.{length-zeros, be-zeros}
+use Rattle.image.specs.Layout.{headerWidth, slotStart}
 use Rattle.image.specs.Image.{header}
-use Rattle.image.proofs.ImageLaws.{length-header}
+use Rattle.image.proofs.ImageLaws.{length-header, header-with}
 use Rattle.store.proofs.Ways.{create-few, create-many, create-size, create-done, fresh-bytes}
 use Rattle.store.proofs.create.Statement.{statement}
 use Rattle.store.proofs.create.Tie as tie
@@ -58,10 +60,11 @@ returns-4 : tie.Need-returns-4
 returns-4 c =
     let a = c .before .before .before .before .before .before .before .before .before .before .before .before .args in
     let s = a .buffer .now in
-    let n : length s ≡ 16 + 596 * a .slots = c .before .before .before .before .before .before .before .before .if3 .left in
-    let w1 = write-next (λ (w : ℕ). header (a .slots) 0) 0 16 _ s _ _ (length-header _ _) (omega arith) (written-none s) (c .before .before .before .before .before .before .put-header .ensures) in
-    let w2 = write-next zeros 16 (length s - 16) _ s _ _ (length-zeros _) (omega arith) w1 (c .before .before .put-be .ensures ∙ be-zeros _) in
-    create-done s (a .slots) (c .before .before .before .before .before .before .before .before .before .before .if1 .left) (c .before .before .before .before .before .before .before .before .before .if2 .left) n _ (written-all (16 + (length s - 16)) _ s _ (omega arith) w2 ∙ fresh-bytes (a .slots) (length s - 16) (omega arith))
+    let n : length s ≡ slotStart (a .slots) = c .before .before .before .before .before .before .before .before .if3 .left in
+    let w1 = write-next (λ (w : ℕ). header (a .slots) 0) 0 headerWidth _ s _ _ (length-header _ _) (omega arith) (written-none s)
+    (c .before .before .before .before .before .before .put-header .ensures ∙ header-with (a .slots) 0 _ (length-take-le headerWidth s (omega arith))) in
+    let w2 = write-next zeros headerWidth (length s - headerWidth) _ s _ _ (length-zeros _) (omega arith) w1 (c .before .before .put-be .ensures ∙ be-zeros _) in
+    create-done s (a .slots) (c .before .before .before .before .before .before .before .before .before .before .if1 .left) (c .before .before .before .before .before .before .before .before .before .if2 .left) n _ (written-all (headerWidth + (length s - headerWidth)) _ s _ (omega arith) w2 ∙ fresh-bytes (a .slots) (length s - headerWidth) (omega arith))
 
 pub create-spec : {M : Type 1} → statement M
 create-spec =

@@ -3,6 +3,7 @@ use native.Mathlib.Omega.{arith}
 use mathlib.Core.Path.{_≡_}
 use Prim.Native.Nat.{_+_, _-_, _*_}
 use Rattle.entry.specs.Entry.{entryOf}
+use Rattle.image.specs.Layout.{headerWidth, slotWidth, slotStart}
 use Rattle.image.specs.Image.{usedOf}
 use Rattle.store.proofs.Splices.{insert-far, insert-none, insert-done}
 use Rattle.store.proofs.write.insert.Statement.{statement}
@@ -73,7 +74,7 @@ returns-3 c =
     let a = c .before .before .before .before .before .before .before .before .before .before .before .before .before .before .before .args in
     let s = a .store .now in
     let u : c .before .before .before .before .before .before .before .before .before .before .used-count .result ≡ usedOf s = c .before .before .before .before .before .before .before .before .before .before .used-count .ensures .0 in
-    let w : (612 + 596 * c .before .before .before .before .before .before .before .before .before .before .used-count .result) - (16 + 596 * a .at) ≡ 596 * (usedOf s - a .at) + 596 = omega (arith, c .before .before .before .before .before .before .before .before .before .if1 .left) in
+    let w : (headerWidth + slotWidth + slotWidth * c .before .before .before .before .before .before .before .before .before .before .used-count .result) - (slotStart (a .at)) ≡ slotWidth * (usedOf s - a .at) + slotWidth = omega (arith, c .before .before .before .before .before .before .before .before .before .if1 .left) in
     insert-done (a .at) (entryOf (a .key .now) (a .value .now) (a .flag) (a .stamp)) s (omega (arith, c .before .before .before .before .before .before .before .before .before .if1 .left)) (omega (arith, c .before .before .before .before .before .before .before .before .if2 .left)) _ w _ _ (c .before .before .before .before .before .before .open-slot .ensures) _ (omega arith) (c .before .before .put-be .ensures)
 
 pub insert-spec : {M : Type 1} → statement M

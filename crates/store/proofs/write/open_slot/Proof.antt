@@ -5,6 +5,7 @@ use Prim.Native.Nat.{_-_}
 use lib.Seq.{length-take-le}
 use lib.ListN.{length, take}
 use Rattle.entry.specs.Entry.{entryOf}
+use Rattle.image.specs.Layout.{slotWidth}
 use Rattle.image.specs.Image.{slotBytes}
 use Rattle.image.proofs.SlotLaws.{slot-with}
 use Rattle.store.proofs.Shifts.{shifted}
@@ -34,8 +35,8 @@ returns c =
     let a = c .before .before .before .before .before .before .before .before .before .before .before .args in
     let s = a .part .now in
     let m = c .before .before .before .before .before .before .shift-up .last .0 in
-    let n : length (take 596 m) ≡ 596 = length-take-le 596 m (omega (arith, c .before .before .before .before .before .before .shift-up .kept .0, c .before .before .before .before .before .before .before .before .before .before .before .pre)) in
-    shifted 596 (length s - 596) s m _ (slotBytes (entryOf (a .key .now) (a .value .now) (a .flag) (a .stamp))) (omega (arith, c .before .before .before .before .before .before .before .before .before .before .before .pre)) (c .before .before .before .before .before .before .shift-up .ensures) (c .before .before .put-slot .ensures ∙ slot-with (entryOf (a .key .now) (a .value .now) (a .flag) (a .stamp)) _ n)
+    let n : length (take slotWidth m) ≡ slotWidth = length-take-le slotWidth m (omega (arith, c .before .before .before .before .before .before .shift-up .kept .0, c .before .before .before .before .before .before .before .before .before .before .before .pre)) in
+    shifted slotWidth (length s - slotWidth) s m _ (slotBytes (entryOf (a .key .now) (a .value .now) (a .flag) (a .stamp))) (omega (arith, c .before .before .before .before .before .before .before .before .before .before .before .pre)) (c .before .before .before .before .before .before .shift-up .ensures) (c .before .before .put-slot .ensures ∙ slot-with (entryOf (a .key .now) (a .value .now) (a .flag) (a .stamp)) _ n)
 
 pub open-slot-spec : {M : Type 1} → statement M
 open-slot-spec =

@@ -3,6 +3,7 @@ use native.Mathlib.Omega.{arith}
 use mathlib.Core.Path.{_≡_}
 use Prim.Native.Nat.{_+_, _-_, _*_}
 use Rattle.entry.specs.Entry.{entryOf}
+use Rattle.image.specs.Layout.{slotWidth, slotStart}
 use Rattle.store.proofs.Splices.{replace-none, replace-done}
 use Rattle.store.proofs.write.replace.Statement.{statement}
 use Rattle.store.proofs.write.replace.Tie as tie
@@ -41,7 +42,7 @@ returns-3 : tie.Need-returns-3
 returns-3 c =
     let a = c .before .before .before .before .before .before .before .before .before .args in
     let s = a .store .now in
-    let w : (16 + 596 * a .at + 596) - (16 + 596 * a .at) ≡ 596 = omega arith in
+    let w : (slotStart (a .at) + slotWidth) - (slotStart (a .at)) ≡ slotWidth = omega arith in
     replace-done (a .at) (entryOf (a .key .now) (a .value .now) (a .flag) (a .stamp)) s (omega (arith, c .before .before .before .before .before .if1 .left, c .before .before .before .before .if2 .left)) _ _ w (c .before .before .put-slot .ensures)
 
 pub replace-spec : {M : Type 1} → statement M

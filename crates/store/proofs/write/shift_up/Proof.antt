@@ -4,12 +4,13 @@ use mathlib.Core.Path.{_≡_, refl}
 use mathlib.Core.List.{_++_}
 use Prim.Native.Nat.{_+_, _-_, _≤_}
 use lib.ListN.{length, take, drop, length-set}
+use Rattle.image.specs.Layout.{slotWidth}
 use Rattle.store.proofs.Shifts.{shift-none, shift-step}
 use Rattle.store.proofs.write.shift_up.Statement.{statement}
 use Rattle.store.proofs.write.shift_up.Tie as tie
 
 abbrev Inv-loop : tie.InvT-loop
-Inv-loop part₀ i₀ part i = (part ≡ take (i + 596) part₀ ++ drop i (take (length part₀ - 596) part₀)) × (i ≤ length part₀ - 596) × (length part ≡ length part₀)
+Inv-loop part₀ i₀ part i = (part ≡ take (i + slotWidth) part₀ ++ drop i (take (length part₀ - slotWidth) part₀)) × (i ≤ length part₀ - slotWidth) × (length part ≡ length part₀)
 
 abbrev μ-loop : tie.MeasureT-loop
 μ-loop part₀ i₀ part i = i
@@ -20,7 +21,7 @@ sub-i c = search needs
 loop-holds : tie.Need-loop-holds Inv-loop μ-loop
 loop-holds c =
     let s = c .args .part .now in
-    (shift-none s 596 (length s - 596) (omega arith), omega arith, refl)
+    (shift-none s slotWidth (length s - slotWidth) (omega arith), omega arith, refl)
 
 sub-i-2 : tie.Need-sub-i-2 Inv-loop μ-loop
 sub-i-2 c = search needs
@@ -41,7 +42,7 @@ loop-again : tie.Need-loop-again Inv-loop μ-loop
 loop-again c =
     let l = c .before .before .loop in
     let s = c .before .before .before .args .part .now in
-    (shift-step s 596 (length s - 596) (omega arith) (l .part) (l .i) (omega arith) (l .inv .1) (l .inv .0), omega arith, simp length-set (l .inv .2))
+    (shift-step s slotWidth (length s - slotWidth) (omega arith) (l .part) (l .i) (omega arith) (l .inv .1) (l .inv .0), omega arith, simp length-set (l .inv .2))
 
 same-length : tie.Need-same-length Inv-loop μ-loop
 same-length c = c .before .loop .inv .2

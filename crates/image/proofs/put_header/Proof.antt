@@ -1,16 +1,19 @@
 use borrow.Author.Needs.{needs}
+use borrow.Author.Tests.{eq-eqb, ne-eqb}
 use native.Mathlib.Omega.{arith}
-use mathlib.Core.Path.{_≡_, _∙_}
-use Prim.Native.Nat.{ℕ}
+use mathlib.Core.Path.{_≡_, sym, _∙_}
 use lib.ListN.{length}
-use Rattle.wire.specs.Fill.{zeros}
-use Rattle.wire.specs.Number.{be}
-use Rattle.wire.proofs.Writing.{written-none, write-next, written-all}
-use Rattle.wire.proofs.Fill.{length-zeros, be-zeros}
-use Rattle.wire.proofs.Number.{length-be}
+use Rattle.wire.proofs.Writing.{written-none}
+use Rattle.image.specs.Layout.{headerWidth, slotWidth}
 use Rattle.image.specs.Image.{header}
-use Rattle.store.proofs.write.put_header.Statement.{statement}
-use Rattle.store.proofs.write.put_header.Tie as tie
+use Rattle.image.specs.Slot.{headerWith}
+use Rattle.image.proofs.Writing.{write-number, write-fill}
+use Rattle.image.proofs.put_header.Statement.{statement}
+use Rattle.image.proofs.put_header.Tie as tie
+
+returns : tie.Need-returns
+unfolding headerWith
+returns c = sym (rw (ne-eqb (length (c .before .before .args .head .now)) headerWidth (c .if1 .taken)))
 
 sub-put-be : tie.Need-sub-put-be
 sub-put-be c = search needs
@@ -75,22 +78,29 @@ put-be-requires-5 c κs = search needs
 same-length : tie.Need-same-length
 same-length c = search needs
 
-returns : tie.Need-returns
-unfolding header
-returns c =
-    let s = c .before .before .before .before .before .before .before .before .before .before .before .before .before .before .before .before .before .before .before .before .before .args .head .now in
-    let n : length s ≡ 16 = c .before .before .before .before .before .before .before .before .before .before .before .before .before .before .before .before .before .before .before .before .before .pre in
-    let w1 = write-next (λ (w : ℕ). be w (c .before .before .before .before .before .before .before .before .before .before .before .before .before .before .before .before .before .before .before .before .before .args .slots)) 0 2 _ s _ _ (length-be 2 _) (omega arith) (written-none s) (c .before .before .before .before .before .before .before .before .before .before .before .before .before .before .before .before .before .before .put-be .ensures) in
-    let w2 = write-next (λ (w : ℕ). be w 0) 2 2 _ s _ _ (length-be 2 _) (omega arith) w1 (c .before .before .before .before .before .before .before .before .before .before .before .before .before .before .put-be2 .ensures) in
-    let w3 = write-next (λ (w : ℕ). be w 596) 4 2 _ s _ _ (length-be 2 _) (omega arith) w2 (c .before .before .before .before .before .before .before .before .before .before .put-be3 .ensures) in
-    let w4 = write-next (λ (w : ℕ). be w 16) 6 2 _ s _ _ (length-be 2 _) (omega arith) w3 (c .before .before .before .before .before .before .put-be4 .ensures) in
-    let w5 = write-next zeros 8 8 _ s _ _ (length-zeros 8) (omega arith) w4 (c .before .before .put-be5 .ensures ∙ be-zeros _) in
-    written-all 16 _ s _ n w5
+returns-2 : tie.Need-returns-2
+unfolding headerWith header
+returns-2 c =
+    let p5 = c .before .before in
+    let p4 = p5 .before .before .before .before in
+    let p3 = p4 .before .before .before .before in
+    let p2 = p3 .before .before .before .before in
+    let p1 = p2 .before .before .before .before in
+    let test = p1 .before .before in
+    let a = test .before .before .args in
+    let s = a .head .now in
+    let n : length s ≡ headerWidth = test .if1 .left in
+    let w1 = write-number s 0 2 _ _ _ (written-none s) (a .slots) (omega arith) (p1 .put-be .ensures) in
+    let w2 = write-number s 2 2 _ _ _ w1 0 (omega arith) (p2 .put-be2 .ensures) in
+    let w3 = write-number s 4 2 _ _ _ w2 slotWidth (omega arith) (p3 .put-be3 .ensures) in
+    let w4 = write-number s 6 2 _ _ _ w3 headerWidth (omega arith) (p4 .put-be4 .ensures) in
+    write-fill s 8 8 _ _ _ w4 n (p5 .put-be5 .ensures) ∙ sym (rw (eq-eqb (length s) headerWidth n))
 
 pub put-header-spec : {M : Type 1} → statement M
 put-header-spec =
     tie.close
     (tie.spec
+    returns
     sub-put-be
     part-put-be-start
     part-put-be-end
@@ -112,4 +122,4 @@ put-header-spec =
     part-put-be-end-5
     put-be-requires-5
     same-length
-    returns)
+    returns-2)
