@@ -60,10 +60,14 @@ pub fn atoms(text: &str, range: Range<usize>) -> Vec<Atom> {
         } else if first.is_whitespace() || "(){};,".contains(first) {
             first.len_utf8()
         } else {
-            rest.find(|c: char| c.is_whitespace() || "(){};,".contains(c)).unwrap_or(rest.len())
+            rest.find(|c: char| c.is_whitespace() || "(){};,".contains(c))
+                .unwrap_or(rest.len())
         };
         if !first.is_whitespace() && !rest.starts_with("--") {
-            found.push(Atom { at, end: at + length });
+            found.push(Atom {
+                at,
+                end: at + length,
+            });
         }
         at += length;
     }
@@ -71,23 +75,34 @@ pub fn atoms(text: &str, range: Range<usize>) -> Vec<Atom> {
 }
 
 pub fn definitions(text: &str) -> Definitions {
-    let mut found = Definitions { signatures: Vec::new(), clauses: Vec::new(), others: Vec::new() };
+    let mut found = Definitions {
+        signatures: Vec::new(),
+        clauses: Vec::new(),
+        others: Vec::new(),
+    };
     for item in items(text) {
         let atoms = atoms(text, item.clone());
         let word = |i: usize| atoms.get(i).map_or("", |a: &Atom| &text[a.at..a.end]);
-        let start = (0..atoms.len()).find(|&i| !matches!(word(i), "pub" | "abbrev" | "unfoldable")).unwrap_or(0);
+        let start = (0..atoms.len())
+            .find(|&i| !matches!(word(i), "pub" | "abbrev" | "unfoldable"))
+            .unwrap_or(0);
         let name = word(start).to_string();
         let equals = (0..atoms.len()).find(|&i| word(i) == "=");
         match name.as_str() {
             "use" | "mod" | "infixl" | "infixr" | "infix" => {}
-            "data" | "record" => found.others.push((word(start + 1).to_string(), words(text, &atoms))),
+            "data" | "record" => found
+                .others
+                .push((word(start + 1).to_string(), words(text, &atoms))),
             _ if word(start + 1) == ":" => {
                 let states = text[item.clone()].trim_end().ends_with("Type 0");
                 found.signatures.push(Signature { name, states });
             }
             _ => {
                 if let Some(equals) = equals {
-                    found.clauses.push(Clause { name, body: atoms[equals].end..item.end });
+                    found.clauses.push(Clause {
+                        name,
+                        body: atoms[equals].end..item.end,
+                    });
                 }
             }
         }
@@ -97,7 +112,10 @@ pub fn definitions(text: &str) -> Definitions {
 
 /// Each word of a text.
 pub fn words(text: &str, atoms: &[Atom]) -> Vec<String> {
-    atoms.iter().map(|a| text[a.at..a.end].to_string()).collect()
+    atoms
+        .iter()
+        .map(|a| text[a.at..a.end].to_string())
+        .collect()
 }
 
 /// The words that each declaration of some proofs is made of, by its name.
@@ -107,12 +125,17 @@ pub type Laws = BTreeMap<String, BTreeSet<String>>;
 pub fn add_laws(laws: &mut Laws, text: &str) {
     let mut name = String::new();
     for line in text.lines() {
-        let mut words = line.split_whitespace().skip_while(|w| matches!(*w, "pub" | "abbrev" | "unfoldable"));
+        let mut words = line
+            .split_whitespace()
+            .skip_while(|w| matches!(*w, "pub" | "abbrev" | "unfoldable"));
         if let (Some(first), Some(":")) = (words.next(), words.next()) {
             name = first.to_string();
         }
         let own = laws.entry(name.clone()).or_default();
-        own.extend(line.split(|c: char| c.is_whitespace() || "(){};,".contains(c)).map(str::to_string));
+        own.extend(
+            line.split(|c: char| c.is_whitespace() || "(){};,".contains(c))
+                .map(str::to_string),
+        );
     }
 }
 
@@ -124,7 +147,11 @@ pub fn is_made_of(laws: &Laws, theorem: &str, law: &str) -> bool {
         if name == law {
             return true;
         }
-        let more = laws.get(name).into_iter().flatten().filter(|word| laws.contains_key(*word));
+        let more = laws
+            .get(name)
+            .into_iter()
+            .flatten()
+            .filter(|word| laws.contains_key(*word));
         open.extend(more.map(String::as_str).filter(|word| seen.insert(word)));
     }
     false

@@ -21,7 +21,12 @@ pub struct Change {
 
 impl Change {
     pub fn applied(&self, text: &str) -> String {
-        format!("{}{}{}", &text[..self.at.start], self.new, &text[self.at.end..])
+        format!(
+            "{}{}{}",
+            &text[..self.at.start],
+            self.new,
+            &text[self.at.end..]
+        )
     }
 
     pub fn line(&self, text: &str) -> usize {
@@ -31,8 +36,15 @@ impl Change {
     /// The lines that it touches before and after, each on one line of text.
     pub fn lines(&self, text: &str) -> (String, String) {
         let start = text[..self.at.start].rfind('\n').map_or(0, |i| i + 1);
-        let end = text[self.at.end..].find('\n').map_or(text.len(), |i| self.at.end + i);
-        let after = format!("{}{}{}", &text[start..self.at.start], self.new, &text[self.at.end..end]);
+        let end = text[self.at.end..]
+            .find('\n')
+            .map_or(text.len(), |i| self.at.end + i);
+        let after = format!(
+            "{}{}{}",
+            &text[start..self.at.start],
+            self.new,
+            &text[self.at.end..end]
+        );
         (on_one_line(&text[start..end]), on_one_line(&after))
     }
 }

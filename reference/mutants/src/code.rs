@@ -23,7 +23,10 @@ impl Declared {
     pub fn add(&mut self, source: &Source) {
         self.enums.extend(source.enums());
         self.structs.extend(source.structs());
-        for Function { name, parameters, .. } in source.functions() {
+        for Function {
+            name, parameters, ..
+        } in source.functions()
+        {
             let other = Some(parameters.clone());
             let known = self.parameters.entry(name).or_insert(other);
             if known.as_ref() != Some(&parameters) {
@@ -37,16 +40,24 @@ impl Declared {
         let cases = &self.enums.iter().find(|e| e.name == name)?.cases;
         let at = cases.iter().position(|c| c.name == case)?;
         let round = (1..cases.len()).map(|i| &cases[(at + i) % cases.len()]);
-        round.into_iter().find(|c| c.holds == cases[at].holds).map(|c| c.name.as_str())
+        round
+            .into_iter()
+            .find(|c| c.holds == cases[at].holds)
+            .map(|c| c.name.as_str())
     }
 
     /// Another field of the same type, in each struct that has the field.
     fn other_fields(&self, field: &str) -> Vec<&str> {
         let mut found = Vec::new();
         for fields in self.structs.iter().map(|s| &s.fields) {
-            let Some(at) = fields.iter().position(|f| f.0 == field) else { continue };
+            let Some(at) = fields.iter().position(|f| f.0 == field) else {
+                continue;
+            };
             let round = (1..fields.len()).map(|i| &fields[(at + i) % fields.len()]);
-            let other = round.into_iter().find(|f| f.1 == fields[at].1).map(|f| f.0.as_str());
+            let other = round
+                .into_iter()
+                .find(|f| f.1 == fields[at].1)
+                .map(|f| f.0.as_str());
             found.extend(other.filter(|other| !found.contains(other)));
         }
         found
@@ -57,12 +68,27 @@ impl Declared {
 pub fn mutants(file: &str, source: &Source, declared: &Declared) -> Vec<Change> {
     let mut found = Vec::new();
     for function in source.functions() {
-        let mut maker = Maker { file, source, declared, within: &function.path, found: &mut found };
+        let mut maker = Maker {
+            file,
+            source,
+            declared,
+            within: &function.path,
+            found: &mut found,
+        };
         maker.range(function.body.clone());
     }
     for constant in source.constants() {
-        let mut maker = Maker { file, source, declared, within: &constant.name, found: &mut found };
-        let numbers = constant.value.clone().filter(|&i| source.kind(i) == Some(Kind::Number));
+        let mut maker = Maker {
+            file,
+            source,
+            declared,
+            within: &constant.name,
+            found: &mut found,
+        };
+        let numbers = constant
+            .value
+            .clone()
+            .filter(|&i| source.kind(i) == Some(Kind::Number));
         let numbers: Vec<usize> = numbers.collect();
         if numbers.len() <= TABLE {
             maker.range(constant.value.clone());
@@ -129,14 +155,20 @@ impl Maker<'_> {
             "!" => &[""],
             _ => &[],
         };
-        others.iter().for_each(|other| self.replace(i..i + 1, other.to_string()));
+        others
+            .iter()
+            .for_each(|other| self.replace(i..i + 1, other.to_string()));
     }
 
     /// Whether the sign at `i` stands between two operands.
     fn is_binary(&self, i: usize) -> bool {
         let before = i.checked_sub(1).map_or("", |i| self.source.word(i));
-        let operand = matches!(self.source.kind(i.wrapping_sub(1)), Some(Kind::Word | Kind::Number));
-        (operand && !matches!(before, "return" | "in" | "if" | "match" | "while")) || matches!(before, ")" | "]")
+        let operand = matches!(
+            self.source.kind(i.wrapping_sub(1)),
+            Some(Kind::Word | Kind::Number)
+        );
+        (operand && !matches!(before, "return" | "in" | "if" | "match" | "while"))
+            || matches!(before, ")" | "]")
     }
 
     /// A number one up and one down; not the index of a tuple struct's field.
@@ -144,7 +176,9 @@ impl Maker<'_> {
         if i > 0 && self.source.word(i - 1) == "." {
             return;
         }
-        let Some((value, suffix)) = number(self.source.word(i)) else { return };
+        let Some((value, suffix)) = number(self.source.word(i)) else {
+            return;
+        };
         self.replace(i..i + 1, format!("{}{suffix}", value + 1));
         if value > 0 {
             self.replace(i..i + 1, format!("{}{suffix}", value - 1));
@@ -160,12 +194,18 @@ impl Maker<'_> {
             _ => {}
         }
         if i > 1 && source.word(i - 1) == "::" {
-            let other = declared.other_case(source.word(i - 2), word).map(str::to_string);
-            other.into_iter().for_each(|other| self.replace(i..i + 1, other));
+            let other = declared
+                .other_case(source.word(i - 2), word)
+                .map(str::to_string);
+            other
+                .into_iter()
+                .for_each(|other| self.replace(i..i + 1, other));
         }
         if i > 0 && source.word(i - 1) == "." && source.word(i + 1) != "(" {
             let others = declared.other_fields(word);
-            others.into_iter().for_each(|other| self.replace(i..i + 1, other.to_string()));
+            others
+                .into_iter()
+                .for_each(|other| self.replace(i..i + 1, other.to_string()));
         }
         if source.word(i + 1) == "(" {
             self.arguments(i);
@@ -175,7 +215,9 @@ impl Maker<'_> {
     /// Two arguments of one type, swapped, in the call whose name stands at `i`.
     fn arguments(&mut self, i: usize) {
         let source = self.source;
-        let Some(Some(types)) = self.declared.parameters.get(source.word(i)) else { return };
+        let Some(Some(types)) = self.declared.parameters.get(source.word(i)) else {
+            return;
+        };
         let arguments = source.listed(i + 2..source.closing(i + 1));
         if arguments.len() != types.len() {
             return;
@@ -185,7 +227,11 @@ impl Maker<'_> {
                 let (first, second) = (&arguments[a], &arguments[b]);
                 if types[a] == types[b] && source.text_of(first) != source.text_of(second) {
                     let between = &source.text[source.span(first).end..source.span(second).start];
-                    let new = format!("{}{between}{}", source.text_of(second), source.text_of(first));
+                    let new = format!(
+                        "{}{between}{}",
+                        source.text_of(second),
+                        source.text_of(first)
+                    );
                     self.replace(first.start..second.end, new);
                 }
             }
@@ -198,7 +244,9 @@ fn number(literal: &str) -> Option<(u128, &str)> {
     let hex = literal.strip_prefix("0x");
     let digits = hex.unwrap_or(literal);
     let radix = if hex.is_some() { 16 } else { 10 };
-    let end = digits.find(|c: char| !(c.is_digit(radix) || c == '_')).unwrap_or(digits.len());
+    let end = digits
+        .find(|c: char| !(c.is_digit(radix) || c == '_'))
+        .unwrap_or(digits.len());
     let value = u128::from_str_radix(&digits[..end].replace('_', ""), radix).ok()?;
     Some((value, &digits[end..]))
 }

@@ -24,11 +24,20 @@ pub fn mutants(files: &[(String, String)], cited: &BTreeSet<String>) -> Vec<Chan
     let reached = reached(files, &parsed, cited);
     let mut found = Vec::new();
     for ((file, text), definitions) in files.iter().zip(&parsed) {
-        let stated = definitions.signatures.iter().filter(|s| s.states).map(|s| s.name.as_str());
+        let stated = definitions
+            .signatures
+            .iter()
+            .filter(|s| s.states)
+            .map(|s| s.name.as_str());
         let stated: BTreeSet<&str> = stated.collect();
         for clause in &definitions.clauses {
             if reached.contains(&clause.name) && !stated.contains(clause.name.as_str()) {
-                let mut maker = Maker { file, text, clause, found: &mut found };
+                let mut maker = Maker {
+                    file,
+                    text,
+                    clause,
+                    found: &mut found,
+                };
                 maker.clause();
             }
         }
@@ -37,7 +46,11 @@ pub fn mutants(files: &[(String, String)], cited: &BTreeSet<String>) -> Vec<Chan
 }
 
 /// The names that the contracts' words lead to, by clauses and declarations of this crate.
-fn reached(files: &[(String, String)], parsed: &[Definitions], cited: &BTreeSet<String>) -> BTreeSet<String> {
+fn reached(
+    files: &[(String, String)],
+    parsed: &[Definitions],
+    cited: &BTreeSet<String>,
+) -> BTreeSet<String> {
     let mut uses: BTreeMap<String, Vec<String>> = BTreeMap::new();
     for ((_, text), definitions) in files.iter().zip(parsed) {
         for clause in &definitions.clauses {
@@ -45,7 +58,9 @@ fn reached(files: &[(String, String)], parsed: &[Definitions], cited: &BTreeSet<
             uses.entry(clause.name.clone()).or_default().extend(more);
         }
         for (name, words) in &definitions.others {
-            uses.entry(name.clone()).or_default().extend(words.iter().cloned());
+            uses.entry(name.clone())
+                .or_default()
+                .extend(words.iter().cloned());
         }
     }
     let mut found = BTreeSet::new();
@@ -97,7 +112,9 @@ impl Maker<'_> {
     }
 
     fn number(&mut self, range: Range<usize>, word: &str) {
-        let Ok(value) = word.parse::<u128>() else { return };
+        let Ok(value) = word.parse::<u128>() else {
+            return;
+        };
         self.replace(range.clone(), (value + 1).to_string());
         if value > 0 {
             self.replace(range, (value - 1).to_string());
@@ -122,14 +139,22 @@ impl Maker<'_> {
 
     /// `cond A x (cond B y z)`, with (A, x) and (B, y) swapped.
     fn swapped_checks(&mut self, atoms: &[Atom], i: usize) {
-        let Some((first, rest)) = self.check(atoms, i) else { return };
+        let Some((first, rest)) = self.check(atoms, i) else {
+            return;
+        };
         if !self.text[atoms[rest].at..].starts_with("(cond ") {
             return;
         }
-        let Some((second, _)) = self.check(atoms, rest + 1) else { return };
+        let Some((second, _)) = self.check(atoms, rest + 1) else {
+            return;
+        };
         let (first, second) = (span(atoms, &first), span(atoms, &second));
         let between = &self.text[first.end..second.start];
-        let new = format!("{}{between}{}", &self.text[second.clone()], &self.text[first.clone()]);
+        let new = format!(
+            "{}{between}{}",
+            &self.text[second.clone()],
+            &self.text[first.clone()]
+        );
         self.replace(first.start..second.end, new);
     }
 
@@ -148,7 +173,9 @@ impl Maker<'_> {
         while i < range.end {
             match &self.text[atoms[i].at..atoms[i].end] {
                 "(" | "{" => {
-                    let Some(close) = closing(self.text, atoms, i) else { return };
+                    let Some(close) = closing(self.text, atoms, i) else {
+                        return;
+                    };
                     self.dropped_operands(atoms, i + 1..close);
                     i = close;
                 }

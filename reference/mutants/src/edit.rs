@@ -32,8 +32,12 @@ pub type Files = BTreeMap<String, String>;
 
 impl Edit {
     pub fn read(name: &str, label: &str, text: &str) -> Result<Edit, String> {
-        let mut edit =
-            Edit { name: name.to_string(), label: label.to_string(), pairs: Vec::new(), expect: String::new() };
+        let mut edit = Edit {
+            name: name.to_string(),
+            label: label.to_string(),
+            pairs: Vec::new(),
+            expect: String::new(),
+        };
         let (mut file, mut old) = ("", "");
         for line in text.lines() {
             match line.split_once(':') {
@@ -59,10 +63,17 @@ impl Edit {
 
     pub fn apply(&self, files: &mut Files) -> Result<(), String> {
         for pair in &self.pairs {
-            let text = files.get_mut(&pair.file).ok_or(format!("there is no {}", pair.file))?;
+            let text = files
+                .get_mut(&pair.file)
+                .ok_or(format!("there is no {}", pair.file))?;
             match text.matches(&pair.old).count() {
                 1 => *text = text.replace(&pair.old, &pair.new),
-                n => return Err(format!("its text stands {n} times in {}: {}", pair.file, pair.old)),
+                n => {
+                    return Err(format!(
+                        "its text stands {n} times in {}: {}",
+                        pair.file, pair.old
+                    ))
+                }
             }
         }
         Ok(())

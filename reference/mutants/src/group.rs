@@ -41,7 +41,9 @@ pub fn grouped(places: &[Option<&Body>], bodies: &[Body]) -> Vec<Vec<usize>> {
     let mut groups: Vec<Vec<usize>> = Vec::new();
     for (i, place) in places.iter().enumerate() {
         let is_apart = |&other: &usize| match (place, places[other]) {
-            (Some(a), Some(b)) => a.name != b.name && !reaches(a, b, bodies) && !reaches(b, a, bodies),
+            (Some(a), Some(b)) => {
+                a.name != b.name && !reaches(a, b, bodies) && !reaches(b, a, bodies)
+            }
             _ => false,
         };
         match groups.iter_mut().find(|group| group.iter().all(is_apart)) {

@@ -50,7 +50,9 @@ impl Source {
 
     /// The token at an index; nothing past the end.
     pub fn word(&self, i: usize) -> &str {
-        self.tokens.get(i).map_or("", |token| &self.text[token.at..token.end])
+        self.tokens
+            .get(i)
+            .map_or("", |token| &self.text[token.at..token.end])
     }
 
     pub fn kind(&self, i: usize) -> Option<Kind> {
@@ -145,7 +147,11 @@ impl Source {
             Some(self.type_text(colon + 1..part.end))
         });
         let name = self.word(at + 1).to_string();
-        let path = if owner.contains(&at) { format!("{}::{name}", self.word(owner.start)) } else { name.clone() };
+        let path = if owner.contains(&at) {
+            format!("{}::{name}", self.word(owner.start))
+        } else {
+            name.clone()
+        };
         let before = |n: usize| at.checked_sub(n).map_or("", |i| self.word(i));
         Some(Function {
             name,
@@ -160,7 +166,11 @@ impl Source {
 
     /// A type as written, but for lifetimes.
     fn type_text(&self, tokens: Range<usize>) -> String {
-        tokens.map(|i| self.word(i)).filter(|word| !word.starts_with('\'')).collect::<Vec<_>>().join(" ")
+        tokens
+            .map(|i| self.word(i))
+            .filter(|word| !word.starts_with('\''))
+            .collect::<Vec<_>>()
+            .join(" ")
     }
 
     pub fn constants(&self) -> Vec<Constant> {
@@ -169,7 +179,9 @@ impl Source {
             if self.word(i) != "const" || self.word(i + 2) != ":" {
                 continue;
             }
-            let Some(equals) = (i..self.tokens.len()).find(|&i| self.word(i) == "=") else { continue };
+            let Some(equals) = (i..self.tokens.len()).find(|&i| self.word(i) == "=") else {
+                continue;
+            };
             let mut end = equals + 1;
             while end < self.tokens.len() && self.word(end) != ";" {
                 if matches!(self.word(end), "(" | "[" | "{") {
@@ -177,16 +189,25 @@ impl Source {
                 }
                 end += 1;
             }
-            found.push(Constant { name: self.word(i + 1).to_string(), value: equals + 1..end });
+            found.push(Constant {
+                name: self.word(i + 1).to_string(),
+                value: equals + 1..end,
+            });
         }
         found
     }
 
     /// The parts of each declared `enum` or `struct`, with its name.
     fn declared(&self, keyword: &str) -> Vec<(String, Vec<Range<usize>>)> {
-        let starts = (0..self.tokens.len()).filter(|&i| self.word(i) == keyword && self.word(i + 2) == "{");
+        let starts =
+            (0..self.tokens.len()).filter(|&i| self.word(i) == keyword && self.word(i + 2) == "{");
         starts
-            .map(|i| (self.word(i + 1).to_string(), self.listed(i + 3..self.closing(i + 2))))
+            .map(|i| {
+                (
+                    self.word(i + 1).to_string(),
+                    self.listed(i + 3..self.closing(i + 2)),
+                )
+            })
             .collect()
     }
 
@@ -196,15 +217,27 @@ impl Source {
             holds: self.type_text(part.start + 1..part.end),
         };
         let declared = self.declared("enum").into_iter();
-        declared.map(|(name, parts)| Enum { name, cases: parts.into_iter().map(case).collect() }).collect()
+        declared
+            .map(|(name, parts)| Enum {
+                name,
+                cases: parts.into_iter().map(case).collect(),
+            })
+            .collect()
     }
 
     pub fn structs(&self) -> Vec<Struct> {
         let field = |part: Range<usize>| {
             let colon = part.clone().find(|&i| self.word(i) == ":")?;
-            Some((self.word(colon - 1).to_string(), self.type_text(colon + 1..part.end)))
+            Some((
+                self.word(colon - 1).to_string(),
+                self.type_text(colon + 1..part.end),
+            ))
         };
         let declared = self.declared("struct").into_iter();
-        declared.map(|(_, parts)| Struct { fields: parts.into_iter().filter_map(field).collect() }).collect()
+        declared
+            .map(|(_, parts)| Struct {
+                fields: parts.into_iter().filter_map(field).collect(),
+            })
+            .collect()
     }
 }

@@ -21,7 +21,12 @@ impl Known {
     /// The entry that a mutant of a crate would have, with no reason.
     pub fn of(name: &str, change: &Change, text: &str) -> Known {
         let (old, new) = change.lines(text);
-        Known { at: format!("{name}/{} {}", change.file, change.within), old, new, why: String::new() }
+        Known {
+            at: format!("{name}/{} {}", change.file, change.within),
+            old,
+            new,
+            why: String::new(),
+        }
     }
 
     pub fn is_of(&self, name: &str) -> bool {
@@ -35,20 +40,36 @@ impl Known {
 
 impl std::fmt::Display for Known {
     fn fmt(&self, f: &mut std::fmt::Formatter) -> std::fmt::Result {
-        write!(f, "at: {}\nold: {}\nnew: {}\nwhy: {}", self.at, self.old, self.new, self.why)
+        write!(
+            f,
+            "at: {}\nold: {}\nnew: {}\nwhy: {}",
+            self.at, self.old, self.new, self.why
+        )
     }
 }
 
 pub fn read(text: &str) -> Result<Vec<Known>, String> {
     let mut found: Vec<Known> = Vec::new();
-    for line in text.lines().filter(|line| !line.starts_with('#') && !line.trim().is_empty()) {
-        let (field, rest) = line.split_once(':').ok_or(format!("no such line: {line}"))?;
+    for line in text
+        .lines()
+        .filter(|line| !line.starts_with('#') && !line.trim().is_empty())
+    {
+        let (field, rest) = line
+            .split_once(':')
+            .ok_or(format!("no such line: {line}"))?;
         let rest = rest.trim().to_string();
         if field == "at" {
-            found.push(Known { at: rest, old: String::new(), new: String::new(), why: String::new() });
+            found.push(Known {
+                at: rest,
+                old: String::new(),
+                new: String::new(),
+                why: String::new(),
+            });
             continue;
         }
-        let last = found.last_mut().ok_or(format!("before the first 'at:': {line}"))?;
+        let last = found
+            .last_mut()
+            .ok_or(format!("before the first 'at:': {line}"))?;
         match field {
             "old" => last.old = rest,
             "new" => last.new = rest,

@@ -19,8 +19,8 @@ pub struct Token {
 
 /// Signs of more than one character, the longest first.
 const SIGNS: [&str; 23] = [
-    "..=", "<<=", ">>=", "::", "->", "=>", "<=", ">=", "==", "!=", "&&", "||", "+=", "-=", "*=", "/=", "%=",
-    "^=", "|=", "&=", "<<", ">>", "..",
+    "..=", "<<=", ">>=", "::", "->", "=>", "<=", ">=", "==", "!=", "&&", "||", "+=", "-=", "*=",
+    "/=", "%=", "^=", "|=", "&=", "<<", ">>", "..",
 ];
 
 pub fn tokens(source: &str) -> Vec<Token> {
@@ -35,15 +35,28 @@ pub fn tokens(source: &str) -> Vec<Token> {
         } else if rest.starts_with("b\"") || rest.starts_with("b'") {
             (Some(Kind::Text), 1 + quoted(&rest[1..]))
         } else if first.is_ascii_digit() {
-            (Some(Kind::Number), run(rest, |c| c.is_ascii_alphanumeric() || c == '_'))
+            (
+                Some(Kind::Number),
+                run(rest, |c| c.is_ascii_alphanumeric() || c == '_'),
+            )
         } else if is_letter(first) || first == '\'' {
-            (Some(Kind::Word), first.len_utf8() + run(&rest[first.len_utf8()..], is_letter))
+            (
+                Some(Kind::Word),
+                first.len_utf8() + run(&rest[first.len_utf8()..], is_letter),
+            )
         } else {
             let long = SIGNS.iter().find(|sign| rest.starts_with(**sign));
-            (Some(Kind::Sign), long.map_or(first.len_utf8(), |sign| sign.len()))
+            (
+                Some(Kind::Sign),
+                long.map_or(first.len_utf8(), |sign| sign.len()),
+            )
         };
         if let Some(kind) = kind {
-            found.push(Token { kind, at, end: at + length });
+            found.push(Token {
+                kind,
+                at,
+                end: at + length,
+            });
         }
         at += length;
     }

@@ -48,15 +48,24 @@ impl Log {
         let verdict = match text.lines().rev().find(|line| line.starts_with("logic=")) {
             _ if !in_time => Verdict::NoVerdict,
             Some(line) if line.starts_with("logic=proved") => Verdict::Proved,
-            Some(line) if line.starts_with("logic=not-proved") => faults.first().map_or(Verdict::Unfit, Fault::verdict),
+            Some(line) if line.starts_with("logic=not-proved") => {
+                faults.first().map_or(Verdict::Unfit, Fault::verdict)
+            }
             _ => Verdict::NotCompiled,
         };
-        Log { verdict, faults, functions: text.lines().filter_map(function).collect() }
+        Log {
+            verdict,
+            faults,
+            functions: text.lines().filter_map(function).collect(),
+        }
     }
 
     fn function(&self, function: &str) -> Option<(&str, Standing)> {
         let end = format!("::{function}");
-        self.functions.iter().find(|(name, _)| name.ends_with(&end)).map(|(name, standing)| (name.as_str(), *standing))
+        self.functions
+            .iter()
+            .find(|(name, _)| name.ends_with(&end))
+            .map(|(name, standing)| (name.as_str(), *standing))
     }
 
     /// How the function with this path, or the end of a path, fared.
@@ -66,7 +75,10 @@ impl Log {
 
     /// The verdict on one function, where several were changed at once; nothing where another hides it.
     pub fn verdict_on(&self, function: &str) -> Option<Verdict> {
-        if !matches!(self.verdict, Verdict::Proved | Verdict::Fact | Verdict::Unfit) {
+        if !matches!(
+            self.verdict,
+            Verdict::Proved | Verdict::Fact | Verdict::Unfit
+        ) {
             return None;
         }
         let (name, standing) = self.function(function)?;
@@ -85,14 +97,25 @@ impl Log {
     /// Whether a theorem is refused and the first error of all stands in its proof, or in a law that it is made of.
     pub fn theorem_refused(&self, theorem: &str, laws: &Laws) -> bool {
         let refused = self.faults.iter().any(|fault| fault.declaration == theorem);
-        refused && self.faults.first().is_some_and(|first| is_made_of(laws, theorem, &first.declaration))
+        refused
+            && self
+                .faults
+                .first()
+                .is_some_and(|first| is_made_of(laws, theorem, &first.declaration))
     }
 }
 
 fn fault(line: &str) -> Option<Fault> {
     let (at, message) = line.split_once(": error: ")?;
-    let declaration = message.strip_prefix('`').and_then(|m| m.split_once('`')).map_or("", |m| m.0);
-    Some(Fault { at: at.to_string(), declaration: declaration.to_string(), says: message.to_string() })
+    let declaration = message
+        .strip_prefix('`')
+        .and_then(|m| m.split_once('`'))
+        .map_or("", |m| m.0);
+    Some(Fault {
+        at: at.to_string(),
+        declaration: declaration.to_string(),
+        says: message.to_string(),
+    })
 }
 
 impl Fault {

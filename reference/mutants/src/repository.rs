@@ -1,5 +1,6 @@
 //! The repository: its crates and their sources.
 
+use crate::edit::Files;
 use crate::items::Source;
 use std::fs;
 use std::io;
@@ -15,9 +16,16 @@ impl Repository {
     pub fn open(root: &Path) -> io::Result<Repository> {
         let root = root.canonicalize()?;
         let list = fs::read_to_string(root.join("crates.txt"))?;
-        let names = list.lines().map(|line| line.split('#').next().unwrap_or(""));
-        let names = names.filter_map(|line| line.split_once(':')).map(|(name, _)| name.trim().to_string());
-        Ok(Repository { root, crates: names.collect() })
+        let names = list
+            .lines()
+            .map(|line| line.split('#').next().unwrap_or(""));
+        let names = names
+            .filter_map(|line| line.split_once(':'))
+            .map(|(name, _)| name.trim().to_string());
+        Ok(Repository {
+            root,
+            crates: names.collect(),
+        })
     }
 
     pub fn folder(&self, name: &str) -> PathBuf {
@@ -25,7 +33,12 @@ impl Repository {
     }
 
     /// The files of a part of a crate with an extension: paths below the crate's folder, and texts.
-    pub fn files(&self, name: &str, part: &str, extension: &str) -> io::Result<Vec<(String, String)>> {
+    pub fn files(
+        &self,
+        name: &str,
+        part: &str,
+        extension: &str,
+    ) -> io::Result<Vec<(String, String)>> {
         let folder = self.folder(name);
         let mut found = Vec::new();
         let mut open = vec![folder.join(part)];
@@ -46,11 +59,20 @@ impl Repository {
 
     pub fn sources(&self, name: &str) -> io::Result<Vec<(String, Source)>> {
         let files = self.files(name, "src", "rt")?;
-        Ok(files.into_iter().map(|(file, text)| (file, Source::new(text))).collect())
+        Ok(files
+            .into_iter()
+            .map(|(file, text)| (file, Source::new(text)))
+            .collect())
     }
 
-    /// The definitions of a crate, without the files that only state theorems.
     pub fn definitions(&self, name: &str) -> io::Result<Vec<(String, String)>> {
         self.files(name, "specs", "antt")
+    }
+
+    /// The files of a crate that an edit or a mutant may change.
+    pub fn sources_and_definitions(&self, name: &str) -> io::Result<Files> {
+        let mut files = self.files(name, "src", "rt")?;
+        files.extend(self.definitions(name)?);
+        Ok(files.into_iter().collect())
     }
 }

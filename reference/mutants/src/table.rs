@@ -29,9 +29,25 @@ impl Row {
     }
 
     fn cells(&self) -> [usize; 8] {
-        let ended = [self.fact, self.unfit, self.not_compiled, self.no_verdict, self.same, self.survives];
+        let ended = [
+            self.fact,
+            self.unfit,
+            self.not_compiled,
+            self.no_verdict,
+            self.same,
+            self.survives,
+        ];
         let [fact, unfit, not_compiled, no_verdict, same, survives] = ended;
-        [self.made, ended.iter().sum(), fact, unfit, not_compiled, no_verdict, same, survives]
+        [
+            self.made,
+            ended.iter().sum(),
+            fact,
+            unfit,
+            not_compiled,
+            no_verdict,
+            same,
+            survives,
+        ]
     }
 }
 
@@ -60,7 +76,11 @@ impl std::fmt::Display for Table {
         writeln!(f, "|---|---|---:|---:|---:|---:|---:|---:|---:|---:|")?;
         let mut sums = [0; 8];
         for (name, part, row) in &self.rows {
-            let of = if *part == Part::Code { "code" } else { "definitions" };
+            let of = if *part == Part::Code {
+                "code"
+            } else {
+                "definitions"
+            };
             write!(f, "| `{name}` | {of} |")?;
             for (sum, cell) in sums.iter_mut().zip(row.cells()) {
                 *sum += cell;

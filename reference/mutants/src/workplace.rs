@@ -30,7 +30,11 @@ impl Workplace {
             copy_folder(&from.join(part), &root.join(part))?;
         }
         fs::copy(from.join("crates.txt"), root.join("crates.txt"))?;
-        Ok(Workplace { root, bases, written: BTreeMap::new() })
+        Ok(Workplace {
+            root,
+            bases,
+            written: BTreeMap::new(),
+        })
     }
 
     fn incremental(&self, name: &str) -> PathBuf {
@@ -108,7 +112,9 @@ impl Workplace {
             std::thread::sleep(Duration::from_millis(20));
             if in_time && LONGEST < start.elapsed() {
                 in_time = false;
-                Command::new("kill").args(["-9", "--", &format!("-{}", child.id())]).status()?;
+                Command::new("kill")
+                    .args(["-9", "--", &format!("-{}", child.id())])
+                    .status()?;
             }
         }
         let text = fs::read(&path)?;

@@ -34,16 +34,28 @@ fn a_theorem_falls_with_a_law_it_is_made_of() {
     let log = Log::read(LOG, true);
     let mut laws = Laws::new();
     add_laws(&mut laws, "pub length-back : A\nlength-back = refl\npub round-trip : B\nround-trip = (length-back x)\n");
-    add_laws(&mut laws, "module _ where\n  read-spec : C\n  read-spec = close\n");
+    add_laws(
+        &mut laws,
+        "module _ where\n  read-spec : C\n  read-spec = close\n",
+    );
     assert!(log.theorem_refused("round-trip", &laws) && log.theorem_refused("length-back", &laws));
     assert!(!log.theorem_refused("read-spec", &laws) && !log.theorem_refused("another", &laws));
 }
 
 #[test]
 fn the_last_line_decides() {
-    assert_eq!(Log::read("logic=proved functions=3", true).verdict, Verdict::Proved);
-    assert_eq!(Log::read("error: no such name", true).verdict, Verdict::NotCompiled);
-    assert_eq!(Log::read("logic=proved functions=3", false).verdict, Verdict::NoVerdict);
+    assert_eq!(
+        Log::read("logic=proved functions=3", true).verdict,
+        Verdict::Proved
+    );
+    assert_eq!(
+        Log::read("error: no such name", true).verdict,
+        Verdict::NotCompiled
+    );
+    assert_eq!(
+        Log::read("logic=proved functions=3", false).verdict,
+        Verdict::NoVerdict
+    );
 }
 
 const CODE: &str = "
@@ -80,5 +92,8 @@ fn edits_of_functions_that_do_not_reach_each_other_share_a_check() {
     ];
     let places: Vec<_> = edits.iter().map(|e| e.place(&bodies)).collect();
     assert!(places[4].is_none());
-    assert_eq!(grouped(&places, &bodies), [vec![0, 1], vec![2], vec![3], vec![4]]);
+    assert_eq!(
+        grouped(&places, &bodies),
+        [vec![0, 1], vec![2], vec![3], vec![4]]
+    );
 }

@@ -79,7 +79,10 @@ fn code_is_changed_in_each_way() {
         "pub const LIMIT: usize = 11;",
         "pub const LIMIT: usize = 9;",
     ];
-    assert_eq!(lines.iter().map(String::as_str).collect::<BTreeSet<_>>(), BTreeSet::from(expected));
+    assert_eq!(
+        lines.iter().map(String::as_str).collect::<BTreeSet<_>>(),
+        BTreeSet::from(expected)
+    );
     assert_eq!(lines.len(), expected.len());
     assert_eq!(changes[0].within, "Pair::is_low");
 }
@@ -91,7 +94,9 @@ fn contracts_and_comments_stay() {
     for function in source.functions() {
         for contract in function.contracts {
             let span = source.span(&contract);
-            assert!(changes.iter().all(|c| c.at.end <= span.start || span.end <= c.at.start));
+            assert!(changes
+                .iter()
+                .all(|c| c.at.end <= span.start || span.end <= c.at.start));
         }
     }
 }
@@ -99,9 +104,20 @@ fn contracts_and_comments_stay() {
 #[test]
 fn functions_are_found_with_their_owner() {
     let source = Source::new(SOURCE.to_string());
-    let found: Vec<_> = source.functions().iter().map(|f| (f.path.clone(), f.public, f.parameters.len())).collect();
-    let expected = [("Pair::is_low", true, 2), ("same", true, 2), ("answer", false, 1)];
-    assert_eq!(found, expected.map(|(path, public, n)| (path.to_string(), public, n)));
+    let found: Vec<_> = source
+        .functions()
+        .iter()
+        .map(|f| (f.path.clone(), f.public, f.parameters.len()))
+        .collect();
+    let expected = [
+        ("Pair::is_low", true, 2),
+        ("same", true, 2),
+        ("answer", false, 1),
+    ];
+    assert_eq!(
+        found,
+        expected.map(|(path, public, n)| (path.to_string(), public, n))
+    );
 }
 
 const DEFINITIONS: &str = "\
@@ -157,8 +173,14 @@ fn definitions_that_contracts_cite_are_changed() {
 #[test]
 fn a_listed_mutant_needs_its_reason() {
     let (changes, _) = made();
-    let known = Known { why: "it is the same".to_string(), ..Known::of("a", &changes[0], SOURCE) };
-    assert_eq!(known::read(&format!("# a comment\n{known}\n")), Ok(vec![known.clone()]));
+    let known = Known {
+        why: "it is the same".to_string(),
+        ..Known::of("a", &changes[0], SOURCE)
+    };
+    assert_eq!(
+        known::read(&format!("# a comment\n{known}\n")),
+        Ok(vec![known.clone()])
+    );
     assert!(known.is_of("a") && known.names(&Known::of("a", &changes[0], SOURCE)));
     assert!(known::read(&format!("{known}\nat: b/src/lib.rt f\n")).is_err());
 }
