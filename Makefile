@@ -1,8 +1,10 @@
 # `make run` shows the store at work. `make test` is the whole gate; it closes with rt's line 'N passed, 0 failed'.
 CARGO = cargo
-TOOLS = reference/target/release
+TOOLS = rust/target/release
 SAMPLE = target/sample
-.PHONY: run test proved reference tools expected tails library differential compared fuzz bench fmt
+# The Rust crates with tests that link the proved library.
+LINKED = -p snowpulley-sys -p snowpulley -p snowpulley-differential
+.PHONY: run test proved lint reference tools expected tails library differential compared fuzz bench fmt
 
 run: target/bin/replay
 	@$(TOOLS)/journal $(SAMPLE)/journal $(SAMPLE)/expected
@@ -13,17 +15,22 @@ run: target/bin/replay
 test:
 	@$(MAKE) --no-print-directory proved
 	@$(MAKE) --no-print-directory -j2 reference library
-	@$(MAKE) --no-print-directory expected tails compared
+	@$(MAKE) --no-print-directory expected tails compared lint
 	@rt fmt --check
 	@rt ci
 
+# The Rust side's layout and lints.
+lint:
+	cd rust && $(CARGO) fmt --check
+	cd rust && $(CARGO) clippy --offline --quiet --workspace --all-targets -- -D warnings
+
 # The second program and its own tests.
 reference:
-	cd reference && $(CARGO) test --release --offline --quiet
+	cd rust && $(CARGO) test --release --offline --quiet
 
 tools:
 	@mkdir -p target
-	@cd reference && $(CARGO) build --release --offline --quiet
+	@cd rust && $(CARGO) build --release --offline --quiet
 
 # The replay program, and what the library for C and Rust is made of.
 proved:
@@ -56,18 +63,18 @@ differential: library
 	@$(MAKE) --no-print-directory compared
 
 compared:
-	cd reference && $(CARGO) test --release --offline --quiet -p snowpulley-capi -p snowpulley-differential
+	cd rust && $(CARGO) test --release --offline --quiet $(LINKED)
 
 # The same for as long as one likes: make fuzz SECONDS=600 SEED=7
 SECONDS = 60
 SEED = 1
 fuzz: library
-	cd reference && $(CARGO) run --release --offline --quiet -p snowpulley-differential --bin fuzz -- $(SECONDS) $(SEED)
+	cd rust && $(CARGO) run --release --offline --quiet -p snowpulley-differential --bin fuzz -- $(SECONDS) $(SEED)
 
 # The proved library beside the second program, and the two replay programs.
 bench: library target/bin/replay
-	cd reference && $(CARGO) run --release --offline --quiet -p snowpulley-bench
-	cd reference && $(CARGO) run --release --offline --quiet -p snowpulley-bench -- replay ../target/bin/replay
+	cd rust && $(CARGO) run --release --offline --quiet -p snowpulley-bench
+	cd rust && $(CARGO) run --release --offline --quiet -p snowpulley-bench -- replay ../target/bin/replay
 
 # What the proved programs are held to is what the second program writes.
 expected: tools
@@ -80,4 +87,4 @@ expected: tools
 
 fmt:
 	rt fmt
-	cd reference && $(CARGO) fmt
+	cd rust && $(CARGO) fmt
