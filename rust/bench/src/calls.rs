@@ -8,7 +8,6 @@ use reference::clock::Clock;
 use reference::frame::{Message, FRAME_MAX};
 use reference::peers::Admission;
 use reference::ring::PLACES_MAX;
-use reference::stamp::Stamp;
 use reference::{node, ring, store as reference_store};
 use samples::script::{framed, put_message, repl_message};
 use snowpulley::store::Found;
@@ -172,14 +171,16 @@ fn lookup_row(name: String, image: &[u8]) -> Row {
 
 fn offer_row(name: String, image: &[u8], number: usize, value: &[u8]) -> Row {
     let key = &key(number);
-    let Stamp {
-        phys,
-        logical,
-        node,
-    } = NEW;
-    let proved = move |store: &mut [u8]| {
-        snowpulley::store::offer(store, key, value, 0, phys, logical, node).is_ok()
+    let entry = snowpulley::Entry {
+        key,
+        content: snowpulley::Content::Active(value),
+        stamp: snowpulley::Stamp {
+            phys: NEW.phys,
+            logical: NEW.logical,
+            node: NEW.node,
+        },
     };
+    let proved = move |store: &mut [u8]| snowpulley::store::offer(store, &entry).is_ok();
     let reference =
         move |store: &mut [u8]| reference_store::offer(store, key, value, 0, NEW).is_ok();
     same_store(&name, image, &proved, &reference);

@@ -1,5 +1,6 @@
 //! The clock.
 
+use crate::entry::Stamp;
 use crate::raw;
 use crate::refusal::{split, Refusal};
 use snowpulley_sys::SP_CLOCK_WORDS;
@@ -28,6 +29,15 @@ impl Clock {
     /// Moves the clock on for the received stamp (phys, logical).
     pub fn receive(&mut self, phys: u64, logical: u16, now: u64) -> Result<(), Refusal> {
         self.step(|words| raw::clock_receive(phys, logical, now, words))
+    }
+
+    /// The stamp that the clock stands at.
+    pub fn stamp(self) -> Stamp {
+        Stamp {
+            phys: self.phys,
+            logical: self.logical,
+            node: self.node,
+        }
     }
 
     pub fn words(self) -> [u64; SP_CLOCK_WORDS] {

@@ -1,87 +1,113 @@
 //! Reading and writing frames.
 
+use crate::entry::{Content, Entry, Stamp};
 use crate::raw;
 use crate::refusal::{split, Refusal};
 use snowpulley_sys::SP_FIELDS;
-use std::ops::Range;
+use std::ops::RangeInclusive;
 
-/// What a frame says; a field that the message has no use for is 0 or empty.
-#[derive(Clone, Debug, PartialEq, Eq)]
-pub struct Fields {
-    pub kind: u8,
-    /// Where the key stands in the frame.
-    pub key: Range<usize>,
-    /// Where the value stands in the frame.
-    pub value: Range<usize>,
-    pub flag: u8,
-    pub phys: u64,
-    pub logical: u16,
-    pub node: u8,
-    /// The number in an ERR frame.
-    pub error: u8,
-}
+pub use snowpulley_sys::SP_FRAME_MAX as FRAME_MAX;
 
-impl Fields {
-    fn returned(words: [u64; SP_FIELDS]) -> Fields {
-        let range = |at: u64, length: u64| at as usize..(at + length) as usize;
-        Fields {
-            kind: words[0] as u8,
-            key: range(words[1], words[2]),
-            value: range(words[3], words[4]),
-            flag: words[5] as u8,
-            phys: words[6],
-            logical: words[7] as u16,
-            node: words[8] as u8,
-            error: words[9] as u8,
-        }
-    }
+/// The length of LEN, which stands first in a frame.
+pub const LEN_BYTES: usize = 2;
+/// What LEN may be: it counts what comes after it.
+pub const LEN_RANGE: RangeInclusive<usize> = 6..=FRAME_MAX - LEN_BYTES;
+
+const PUT: u64 = 1;
+const GET: u64 = 2;
+const DEL: u64 = 3;
+const REPL: u64 = 4;
+const OK: u64 = 16;
+const VALUE: u64 = 17;
+const NOTFOUND: u64 = 18;
+const ERR: u64 = 20;
+
+/// What a frame says; keys and values are parts of the frame.
+#[derive(Clone, Copy, Debug, PartialEq, Eq)]
+pub enum Message<'a> {
+    Put { key: &'a [u8], value: &'a [u8] },
+    Get { key: &'a [u8] },
+    Del { key: &'a [u8] },
+    Repl(Entry<'a>),
+    Ok,
+    Value { value: &'a [u8] },
+    NotFound,
+    Err { number: u8 },
 }
 
 /// Reads exactly one frame.
-pub fn read(frame: &[u8]) -> Result<Fields, Refusal> {
+pub fn read(frame: &[u8]) -> Result<Message<'_>, Refusal> {
     let mut words = [0; SP_FIELDS];
     split(raw::frame_read(frame, &mut words))?;
-    Ok(Fields::returned(words))
+    Ok(message(frame, words))
 }
 
-// Each writer fills the front of `out` and gives the frame's length.
-
-pub fn write_put(key: &[u8], value: &[u8], out: &mut [u8]) -> Result<usize, Refusal> {
-    split(raw::write_put(key, value, out)).map(usize::from)
+fn message(frame: &[u8], words: [u64; SP_FIELDS]) -> Message<'_> {
+    let [kind, key_at, key_length, value_at, value_length, flag, phys, logical, node, number] =
+        words;
+    let part = |at: u64, length: u64| &frame[at as usize..(at + length) as usize];
+    let key = part(key_at, key_length);
+    let value = part(value_at, value_length);
+    match kind {
+        PUT => Message::Put { key, value },
+        GET => Message::Get { key },
+        DEL => Message::Del { key },
+        REPL => Message::Repl(Entry {
+            key,
+            content: Content::returned(flag as u8, value),
+            stamp: Stamp {
+                phys,
+                logical: logical as u16,
+                node: node as u8,
+            },
+        }),
+        OK => Message::Ok,
+        VALUE => Message::Value { value },
+        NOTFOUND => Message::NotFound,
+        ERR => Message::Err {
+            number: number as u8,
+        },
+        other => panic!("the header has no frame type {other}"),
+    }
 }
 
-pub fn write_get(key: &[u8], out: &mut [u8]) -> Result<usize, Refusal> {
-    split(raw::write_get(key, out)).map(usize::from)
+impl Message<'_> {
+    /// Fills the front of `out` with the message's frame; its length.
+    pub fn write(&self, out: &mut [u8]) -> Result<usize, Refusal> {
+        let result = match *self {
+            Message::Put { key, value } => raw::write_put(key, value, out),
+            Message::Get { key } => raw::write_get(key, out),
+            Message::Del { key } => raw::write_del(key, out),
+            Message::Repl(entry) => write_repl(&entry, out),
+            Message::Ok => raw::write_ok(out),
+            Message::Value { value } => raw::write_value(value, out),
+            Message::NotFound => raw::write_not_found(out),
+            Message::Err { number } => raw::write_err(number, out),
+        };
+        split(result).map(usize::from)
+    }
+
+    /// The message's frame.
+    pub fn frame(&self) -> Result<Vec<u8>, Refusal> {
+        let mut out = [0; FRAME_MAX];
+        let length = self.write(&mut out)?;
+        Ok(out[..length].to_vec())
+    }
 }
 
-pub fn write_del(key: &[u8], out: &mut [u8]) -> Result<usize, Refusal> {
-    split(raw::write_del(key, out)).map(usize::from)
-}
-
-pub fn write_repl(
-    key: &[u8],
-    value: &[u8],
-    flag: u8,
-    phys: u64,
-    logical: u16,
-    node: u8,
-    out: &mut [u8],
-) -> Result<usize, Refusal> {
-    split(raw::write_repl(key, value, flag, phys, logical, node, out)).map(usize::from)
-}
-
-pub fn write_ok(out: &mut [u8]) -> Result<usize, Refusal> {
-    split(raw::write_ok(out)).map(usize::from)
-}
-
-pub fn write_value(value: &[u8], out: &mut [u8]) -> Result<usize, Refusal> {
-    split(raw::write_value(value, out)).map(usize::from)
-}
-
-pub fn write_not_found(out: &mut [u8]) -> Result<usize, Refusal> {
-    split(raw::write_not_found(out)).map(usize::from)
-}
-
-pub fn write_err(number: u8, out: &mut [u8]) -> Result<usize, Refusal> {
-    split(raw::write_err(number, out)).map(usize::from)
+fn write_repl(entry: &Entry<'_>, out: &mut [u8]) -> u32 {
+    let Entry {
+        key,
+        content,
+        stamp,
+    } = *entry;
+    raw::write_repl(
+        key,
+        content.value(),
+        content.flag(),
+        stamp.phys,
+        stamp.logical,
+        stamp.node,
+        out,
+    )
 }

@@ -6,8 +6,10 @@
 
 pub mod checksum;
 pub mod clock;
+pub mod entry;
 pub mod frame;
 pub mod handler;
+pub mod image;
 pub mod peers;
 pub mod raw;
 pub mod refusal;
@@ -15,5 +17,7 @@ pub mod ring;
 pub mod store;
 
 pub use clock::Clock;
-pub use peers::{PeerTable, Row};
+pub use entry::{Content, Entry, Stamp};
+pub use frame::Message;
+pub use peers::{PeerTable, Row, State};
 pub use refusal::Refusal;

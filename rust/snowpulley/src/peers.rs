@@ -7,12 +7,28 @@ use snowpulley_sys::SP_PEERS_WORDS;
 pub const ROWS_MAX: usize = 10;
 const ROW_WORDS: usize = 6;
 
+/// A peer's state; a later one is worse.
+#[derive(Clone, Copy, Debug, PartialEq, Eq, PartialOrd, Ord)]
+#[repr(u8)]
+pub enum State {
+    Alive = 0,
+    Suspect = 1,
+    Down = 2,
+}
+
+impl State {
+    fn from_word(word: u64) -> Option<State> {
+        let states = [State::Alive, State::Suspect, State::Down];
+        states.into_iter().find(|&state| state as u64 == word)
+    }
+}
+
 #[derive(Clone, Copy, Debug, PartialEq, Eq)]
 pub struct Row {
     pub id: u8,
     pub address: [u8; 4],
     pub port: u16,
-    pub state: u8,
+    pub state: State,
     pub incarnation: u32,
     pub seen: u64,
 }
@@ -23,7 +39,7 @@ impl Row {
             self.id.into(),
             u32::from_be_bytes(self.address).into(),
             self.port.into(),
-            self.state.into(),
+            self.state as u64,
             self.incarnation.into(),
             self.seen,
         ]
@@ -35,7 +51,7 @@ impl Row {
             id: id.try_into().ok()?,
             address: u32::try_from(address).ok()?.to_be_bytes(),
             port: port.try_into().ok()?,
-            state: state.try_into().ok()?,
+            state: State::from_word(state)?,
             incarnation: incarnation.try_into().ok()?,
             seen,
         })
@@ -92,11 +108,11 @@ impl PeerTable {
     pub fn reported(
         &mut self,
         id: u8,
-        state: u8,
+        state: State,
         incarnation: u32,
         now: u64,
     ) -> Result<(), Refusal> {
-        self.step(|words| raw::peers_reported(id, state, incarnation, now, words))
+        self.step(|words| raw::peers_reported(id, state as u8, incarnation, now, words))
     }
 
     /// Time has passed.

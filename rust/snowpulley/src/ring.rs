@@ -17,6 +17,28 @@ pub enum Admission {
     Standing = SP_STANDING,
 }
 
+/// The most places that a ring has.
+pub const PLACES_MAX: usize = 640;
+
+/// Where one of a module's vnodes stands on the ring.
+#[derive(Clone, Copy, Debug, PartialEq, Eq, PartialOrd, Ord)]
+pub struct Place {
+    pub token: u32,
+    pub node: u8,
+    pub vnode: u8,
+}
+
+impl Place {
+    /// The place that a word of a sound ring stands for.
+    pub fn of(word: u64) -> Place {
+        Place {
+            token: (word >> 16) as u32,
+            node: (word >> 8) as u8,
+            vnode: word as u8,
+        }
+    }
+}
+
 /// A key's ring position.
 pub fn key_position(key: &[u8], salt: u32) -> Result<u32, Refusal> {
     let mut position = [0];
@@ -27,6 +49,14 @@ pub fn key_position(key: &[u8], salt: u32) -> Result<u32, Refusal> {
 /// Fills the front of `ring`; the number of places.
 pub fn build(ids: &[u8], vnodes: u8, salt: u32, ring: &mut [u64]) -> Result<usize, Refusal> {
     split(raw::ring_build(ids, vnodes, salt, ring)).map(usize::from)
+}
+
+/// The ring of some ids.
+pub fn built(ids: &[u8], vnodes: u8, salt: u32) -> Result<Vec<u64>, Refusal> {
+    let mut ring = vec![0; PLACES_MAX];
+    let count = build(ids, vnodes, salt, &mut ring)?;
+    ring.truncate(count);
+    Ok(ring)
 }
 
 pub fn is_sound(ring: &[u64]) -> bool {

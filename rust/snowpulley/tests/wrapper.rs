@@ -2,10 +2,12 @@
 //! points.
 
 use snowpulley::clock::Clock;
-use snowpulley::frame;
+use snowpulley::entry::{key_is_acceptable, Content, Entry, Stamp};
+use snowpulley::frame::{self, Message};
 use snowpulley::handler::{handle, Answer};
-use snowpulley::peers::PeerTable;
-use snowpulley::ring::{self, Admission};
+use snowpulley::image::{self, Header};
+use snowpulley::peers::{PeerTable, State};
+use snowpulley::ring::{self, Admission, Place};
 use snowpulley::store::{self, Found, Offered};
 use snowpulley::{checksum, Refusal};
 
@@ -53,20 +55,22 @@ fn peer_events() {
         table.add(2, [0; 4], 0, 0, LATE - 1),
         Err(Refusal::PeerKnown)
     );
-    for (now, state) in [(4_999, 0), (5_000, 1), (15_000, 2)] {
+    let states = [State::Alive, State::Suspect, State::Down];
+    for (now, state) in [4_999, 5_000, 15_000].into_iter().zip(states) {
         assert_eq!(table.tick(now), Ok(()));
         assert_eq!(table.rows[1].state, state);
     }
     assert_eq!(table.heard(2, 1, 15_000), Ok(()));
-    assert_eq!(table.rows[1].state, 0);
-    assert_eq!(table.reported(2, 1, 1, 15_000), Ok(()));
-    assert_eq!(table.reported(2, 2, 0, 15_000), Err(Refusal::Stale));
+    assert_eq!(table.rows[1].state, State::Alive);
+    assert_eq!(table.reported(2, State::Suspect, 1, 15_000), Ok(()));
+    let stale = table.reported(2, State::Down, 0, 15_000);
+    assert_eq!(stale, Err(Refusal::Stale));
     assert_eq!(table.heard(1, 9, 0), Err(Refusal::SelfPeer));
     assert_eq!(table.heard(3, 9, 0), Err(Refusal::UnknownPeer));
     assert_eq!(table.tick(LATE), Err(Refusal::BadTime));
     assert_eq!(PeerTable::from_words(&table.words()), Some(table));
     assert!(table.is_sound());
-    table.rows[0].state = 1;
+    table.rows[0].state = State::Suspect;
     assert!(!table.is_sound());
 }
 
@@ -96,7 +100,7 @@ fn owner_walk() {
     assert_eq!(owners(&table, 201, home, 2), Ok([1, 2, 77, 77]));
     assert_eq!(owners(&table, 901, home, 3), Ok([1, 2, 3, 77]));
     assert_eq!(owners(&table, 0, home, 4), Err(Refusal::BadArgument));
-    table.rows[2].state = 2;
+    table.rows[2].state = State::Down;
     let standing = owners(&table, 200, Admission::Standing, 3);
     assert_eq!(standing, Err(Refusal::TooFew));
 }
@@ -109,8 +113,13 @@ fn ring_of_ids() {
     assert!(ring::is_sound(&places[..8]));
     assert!(!ring::is_sound(&places));
     assert!(ring::is_sound(&[]));
-    let token = u64::from(ring::token(4, 0, 99));
-    assert!(places.contains(&(token * 65536 + 4 * 256)));
+    let first = Place {
+        token: ring::token(4, 0, 99),
+        node: 4,
+        vnode: 0,
+    };
+    assert!(places.map(Place::of).contains(&first));
+    assert_eq!(ring::built(&[4, 7], 4, 99).as_deref(), Ok(&places[..8]));
     assert_eq!(
         ring::build(&[4, 4], 4, 99, &mut places),
         Err(Refusal::BadArgument)
@@ -120,30 +129,102 @@ fn ring_of_ids() {
     assert_eq!(ring::key_position(b"", 99), Err(Refusal::BadKey));
 }
 
+const STAMP: Stamp = Stamp {
+    phys: 7,
+    logical: 8,
+    node: 9,
+};
+
+fn active<'a>(key: &'a [u8], value: &'a [u8], phys: u64) -> Entry<'a> {
+    Entry {
+        key,
+        content: Content::Active(value),
+        stamp: Stamp { phys, ..STAMP },
+    }
+}
+
+fn tombstone(key: &[u8], phys: u64) -> Entry<'_> {
+    Entry {
+        content: Content::Tombstone,
+        ..active(key, b"", phys)
+    }
+}
+
+/// Every message, with the length of its frame.
+const MESSAGES: [(Message<'_>, usize); 10] = [
+    (
+        Message::Put {
+            key: b"k1",
+            value: b"v",
+        },
+        14,
+    ),
+    (Message::Get { key: b"k1" }, 11),
+    (Message::Del { key: b"k1" }, 11),
+    (
+        Message::Repl(Entry {
+            key: b"k1",
+            content: Content::Active(b"v"),
+            stamp: STAMP,
+        }),
+        24,
+    ),
+    (
+        Message::Repl(Entry {
+            key: b"k1",
+            content: Content::Tombstone,
+            stamp: STAMP,
+        }),
+        23,
+    ),
+    (Message::Ok, 8),
+    (Message::Value { value: b"v" }, 11),
+    (Message::Value { value: &[7; 512] }, 522),
+    (Message::NotFound, 8),
+    (Message::Err { number: 5 }, 9),
+];
+
 #[test]
-fn frames() {
-    let mut out = [0; 600];
-    let length = frame::write_get(b"k1", &mut out).unwrap();
-    assert_eq!(length, 11);
-    assert_eq!(out[..7], [0, 9, 2, 0, 2, 0x6B, 0x31]);
-    let fields = frame::read(&out[..length]).unwrap();
-    assert_eq!((fields.kind, fields.key), (2, 5..7));
-    let length = frame::write_repl(b"k1", b"v", 0, 7, 8, 9, &mut out).unwrap();
-    let fields = frame::read(&out[..length]).unwrap();
-    assert_eq!(&out[fields.value], b"v");
-    assert_eq!((fields.phys, fields.logical, fields.node), (7, 8, 9));
-    let length = frame::write_err(5, &mut out).unwrap();
-    assert_eq!(frame::read(&out[..length]).unwrap().error, 5);
-    assert_eq!(frame::read(&out[..length - 1]), Err(Refusal::BadFrame));
-    assert_eq!(frame::write_put(b"k1", b"v", &mut out), Ok(14));
-    assert_eq!(frame::write_del(b"k1", &mut out), Ok(11));
-    assert_eq!(frame::write_ok(&mut out), Ok(8));
-    assert_eq!(frame::write_not_found(&mut out), Ok(8));
-    assert_eq!(out[..4], [0, 6, 18, 0]);
-    assert_eq!(frame::write_value(&[7; 512], &mut out), Ok(522));
-    let large = frame::write_value(&[7; 513], &mut out);
-    assert_eq!(large, Err(Refusal::ValueTooLarge));
-    assert_eq!(frame::write_ok(&mut out[..7]), Err(Refusal::NoRoom));
+fn every_message_reads_back() {
+    for (message, length) in MESSAGES {
+        let frame = message.frame().unwrap();
+        assert_eq!(frame.len(), length, "{message:?}");
+        assert_eq!(frame::read(&frame), Ok(message));
+        assert_eq!(frame::read(&frame[1..]), Err(Refusal::BadFrame));
+        let mut short = vec![0; length - 1];
+        assert_eq!(message.write(&mut short), Err(Refusal::NoRoom));
+    }
+}
+
+#[test]
+fn frames_of_the_points() {
+    let get = Message::Get { key: b"k1" }.frame().unwrap();
+    assert_eq!(get[..7], [0, 9, 2, 0, 2, 0x6B, 0x31]);
+    let not_found = Message::NotFound.frame().unwrap();
+    assert_eq!(not_found[..4], [0, 6, 18, 0]);
+    let large = Message::Value { value: &[7; 513] };
+    assert_eq!(large.frame(), Err(Refusal::ValueTooLarge));
+    let late = Message::Repl(active(b"k", b"", LATE));
+    assert_eq!(late.frame(), Err(Refusal::BadTime));
+    assert_eq!(frame::LEN_RANGE, 6..=598);
+}
+
+#[test]
+fn keys() {
+    assert!(key_is_acceptable(&[0; 64]) && key_is_acceptable(b"_sys"));
+    assert!(!key_is_acceptable(&[0; 65]) && !key_is_acceptable(b""));
+    assert!(!key_is_acceptable(b"_sys:"));
+}
+
+#[test]
+fn stamps_are_compared_from_the_left() {
+    let next = |phys, logical, node| Stamp {
+        phys,
+        logical,
+        node,
+    };
+    assert!(next(8, 0, 0) > STAMP && next(7, 9, 0) > STAMP && next(7, 8, 10) > STAMP);
+    assert_eq!(STAMP.to_string(), "(7, 8, 9)");
 }
 
 #[test]
@@ -153,45 +234,78 @@ fn stores() {
     assert_eq!(store::create(&mut one, 2), Ok(()));
     assert_eq!(one[..8], [0, 2, 0, 0, 2, 0x54, 0, 0x10]);
     assert!(one[8..].iter().all(|&byte| byte == 0));
-    let offer = |store: &mut [u8], key: &[u8], value: &[u8], flag, phys| {
-        store::offer(store, key, value, flag, phys, 0, 1)
-    };
-    assert_eq!(offer(&mut one, b"a", b"x", 0, 5), Ok(Offered::Stored));
-    assert_eq!(offer(&mut one, b"a", b"y", 0, 5), Ok(Offered::Kept));
-    assert_eq!(offer(&mut one, b"a", b"z", 0, 6), Ok(Offered::Replaced));
-    assert_eq!(offer(&mut one, b"b", b"", 1, 6), Ok(Offered::Stored));
-    assert_eq!(offer(&mut one, b"c", b"", 0, 6), Err(Refusal::StoreFull));
+    assert_eq!(store::fresh(2).as_ref(), Ok(&one));
+    assert_eq!(store::fresh(101), Err(Refusal::BadArgument));
+    let mut offer = |entry| store::offer(&mut one, &entry);
+    assert_eq!(offer(active(b"a", b"x", 5)), Ok(Offered::Stored));
+    assert_eq!(offer(active(b"a", b"y", 5)), Ok(Offered::Kept));
+    assert_eq!(offer(active(b"a", b"z", 6)), Ok(Offered::Replaced));
+    assert_eq!(offer(tombstone(b"b", 6)), Ok(Offered::Stored));
+    assert_eq!(offer(active(b"c", b"", 6)), Err(Refusal::StoreFull));
     assert_eq!(store::lookup(&one, b"a"), Ok(Found::Value(b"z")));
     assert_eq!(store::lookup(&one, b"b"), Ok(Found::Deleted));
     assert_eq!(store::lookup(&one, b"c"), Ok(Found::Never));
-    let mut two = vec![0; store::length(2)];
-    store::create(&mut two, 2).unwrap();
+    let held = vec![active(b"a", b"z", 6), tombstone(b"b", 6)];
+    assert_eq!(store::entries(&one), Ok(held));
+    let mut two = store::fresh(2).unwrap();
     assert_eq!(store::merge(&mut two, &one), Ok(()));
     assert_eq!(one, two);
     two[2] = 9;
     assert!(!store::is_sound(&two));
+    assert_eq!(store::entries(&two), Err(Refusal::BadStore));
     assert_eq!(store::merge(&mut one, &two), Err(Refusal::BadStore));
 }
 
 #[test]
+fn the_layout_of_an_image() {
+    let mut image = store::fresh(3).unwrap();
+    store::offer(&mut image, &active(b"key", b"value", 6)).unwrap();
+    let header = Header {
+        slots: 3,
+        used: 1,
+        slot_width: 596,
+        first_slot: 16,
+        zeros: [0; 8],
+    };
+    assert_eq!(Header::read(&image), Some(header));
+    assert_eq!(Header::read(&image[..15]), None);
+    let slots: Vec<_> = image::slots(&image).collect();
+    assert_eq!(slots.len(), 3);
+    assert!(slots[1].is_zero() && slots[2].is_zero());
+    let slot = slots[0];
+    assert_eq!((slot.key_length(), slot.value_length()), (3, 5));
+    assert_eq!((slot.flag(), slot.zeros()), (0, &[0; 3][..]));
+    assert_eq!(slot.key(), (&b"key"[..], &[0; 61][..]));
+    assert_eq!(slot.value(), (&b"value"[..], &[0; 507][..]));
+    assert_eq!(slot.stamp(), Stamp { phys: 6, ..STAMP });
+    assert!(slot.checksum_is_right());
+    // Any bytes may be read.
+    let noise = vec![0xFF; 16 + 596 + 17];
+    let slot = image::slots(&noise).next().unwrap();
+    assert_eq!((slot.key().0.len(), slot.value().0.len()), (64, 512));
+    assert!(!slot.checksum_is_right());
+    assert_eq!(image::slots(&noise).count(), 1);
+    assert_eq!(image::slots(&[]).count(), 0);
+}
+
+#[test]
 fn requests() {
-    let mut image = vec![0; store::length(1)];
-    store::create(&mut image, 1).unwrap();
+    let mut image = store::fresh(1).unwrap();
     let mut clock = Clock::fresh(1);
-    let (mut request, mut reply) = ([0; 600], [0; 600]);
-    let length = frame::write_put(b"k", b"v", &mut request).unwrap();
-    let answer = handle(&mut image, &mut clock, 10, &request[..length], &mut reply);
+    let mut reply = [0; frame::FRAME_MAX];
+    let put = |key| Message::Put { key, value: b"v" }.frame().unwrap();
+    let answer = handle(&mut image, &mut clock, 10, &put(b"k"), &mut reply);
     let done = Answer {
         length: 8,
         refusal: None,
     };
     assert_eq!(answer, done);
     assert_eq!(clock.words(), [10, 0, 1, 0]);
-    let length = frame::write_put(b"l", b"v", &mut request).unwrap();
-    let answer = handle(&mut image, &mut clock, 11, &request[..length], &mut reply);
+    let answer = handle(&mut image, &mut clock, 11, &put(b"l"), &mut reply);
     assert_eq!(answer.refusal, Some(Refusal::StoreFull));
-    assert_eq!(frame::read(&reply[..answer.length]).unwrap().error, 6);
+    let told = frame::read(&reply[..answer.length]);
+    assert_eq!(told, Ok(Message::Err { number: 6 }));
     assert_eq!(clock.words(), [10, 0, 1, 0]);
-    let short = handle(&mut image, &mut clock, 11, &request, &mut reply[..599]);
+    let short = handle(&mut image, &mut clock, 11, &put(b"l"), &mut reply[..599]);
     assert_eq!((short.length, short.refusal), (0, Some(Refusal::NoRoom)));
 }
