@@ -52,27 +52,4 @@ impl Refusal {
     pub fn from_number(number: u8) -> Option<Refusal> {
         Refusal::ALL.into_iter().find(|r| r.number() == number)
     }
-
-    /// The name in the rules, for people to read.
-    pub fn name(self) -> &'static str {
-        match self {
-            Refusal::BadKey => "BAD_KEY",
-            Refusal::ValueTooLarge => "VALUE_TOO_LARGE",
-            Refusal::BadFrame => "BAD_FRAME",
-            Refusal::NoRoom => "NO_ROOM",
-            Refusal::BadStore => "BAD_STORE",
-            Refusal::StoreFull => "STORE_FULL",
-            Refusal::Overtaken => "OVERTAKEN",
-            Refusal::ClockSpent => "CLOCK_SPENT",
-            Refusal::BadTime => "BAD_TIME",
-            Refusal::TooFew => "TOO_FEW",
-            Refusal::UnknownPeer => "UNKNOWN_PEER",
-            Refusal::Stale => "STALE",
-            Refusal::TableFull => "TABLE_FULL",
-            Refusal::PeerKnown => "PEER_KNOWN",
-            Refusal::SelfPeer => "SELF",
-            Refusal::BadRing => "BAD_RING",
-            Refusal::BadArgument => "BAD_ARGUMENT",
-        }
-    }
 }

@@ -13,8 +13,6 @@ fn refusals_are_numbered_from_1_to_17() {
     }
     assert_eq!(Refusal::from_number(0), None);
     assert_eq!(Refusal::from_number(18), None);
-    assert_eq!(Refusal::SelfPeer.name(), "SELF");
-    assert_eq!(Refusal::BadArgument.name(), "BAD_ARGUMENT");
 }
 
 #[test]

@@ -1,6 +1,5 @@
-//! What the programs share: the sample journals and the journal viewer.
+//! The sample journals, as the programs here and the tests write them.
 
 pub mod sample;
 pub mod script;
-pub mod show;
 pub mod tail;

@@ -72,6 +72,13 @@ fn message(frame: &[u8], words: [u64; SP_FIELDS]) -> Message<'_> {
 }
 
 impl Message<'_> {
+    /// The message that tells a refusal.
+    pub fn refused(refusal: Refusal) -> Message<'static> {
+        Message::Err {
+            number: refusal.number() as u8,
+        }
+    }
+
     /// Fills the front of `out` with the message's frame; its length.
     pub fn write(&self, out: &mut [u8]) -> Result<usize, Refusal> {
         let result = match *self {

@@ -43,6 +43,8 @@ fn numbers_name_refusals() {
         assert_eq!(Refusal::from_number(refusal.number()), Some(refusal));
         assert!(refusal.given().len() > 10);
     }
+    assert_eq!(Refusal::SelfPeer.name(), "SELF");
+    assert_eq!(Refusal::BadArgument.name(), "BAD_ARGUMENT");
     assert_eq!(Refusal::from_number(0), None);
     assert_eq!(Refusal::from_number(u16::MAX), None);
 }
