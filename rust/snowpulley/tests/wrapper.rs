@@ -305,6 +305,7 @@ fn requests() {
     assert_eq!(answer.refusal, Some(Refusal::StoreFull));
     let told = frame::read(&reply[..answer.length]);
     assert_eq!(told, Ok(Message::Err { number: 6 }));
+    assert_eq!(told, Ok(Message::refused(Refusal::StoreFull)));
     assert_eq!(clock.words(), [10, 0, 1, 0]);
     let short = handle(&mut image, &mut clock, 11, &put(b"l"), &mut reply[..599]);
     assert_eq!((short.length, short.refusal), (0, Some(Refusal::NoRoom)));
