@@ -1,40 +1,60 @@
 # `make run` shows the store at work. `make test` is the whole gate; it closes with rt's line 'N passed, 0 failed'.
+SHELL = /bin/bash
 CARGO = cargo
-TOOLS = reference/target/release
+TOOLS = rust/target/release
 SAMPLE = target/sample
-.PHONY: run test proved reference tools expected tails library differential compared fuzz bench mutants wrong-answers fmt
+LIBRARY = target/staticlib/libcapi.a
+# The Rust crates with tests that link the proved library.
+LINKED = -p snowpulley-sys -p snowpulley -p snowpulley-cli -p snowpulley-differential
+.PHONY: run replay test proved lint reference tools tool expected tails library differential compared fuzz bench mutants wrong-answers fmt
 
-run: target/bin/replay
+# $(call told,LOG,COMMAND): runs rt, and tells each crate when it is proved. The whole output is in the log.
+told = mkdir -p $(SAMPLE); set -o pipefail; $(2) 2>&1 | tee $(SAMPLE)/$(1) | sed -un 's/^rt: /  /p' || { cat $(SAMPLE)/$(1); exit 1; }
+
+# What went wrong on the site, on the proved library.
+run: tool
+	@$(TOOLS)/snowpulley demo
+
+# The sample journal with its replies: those of the proved program, of the proved library and of the second program are the same.
+replay: tool tools target/bin/replay
 	@$(TOOLS)/journal $(SAMPLE)/journal $(SAMPLE)/expected
-	@target/bin/replay <$(SAMPLE)/journal >$(SAMPLE)/replies
-	@cmp $(SAMPLE)/expected $(SAMPLE)/replies
-	@$(TOOLS)/view $(SAMPLE)/journal $(SAMPLE)/replies
+	@target/bin/replay <$(SAMPLE)/journal >$(SAMPLE)/program
+	@$(TOOLS)/snowpulley replay $(SAMPLE)/journal --replies $(SAMPLE)/replies
+	@cmp $(SAMPLE)/expected $(SAMPLE)/program && cmp $(SAMPLE)/expected $(SAMPLE)/replies
 
 test:
 	@$(MAKE) --no-print-directory proved
 	@$(MAKE) --no-print-directory -j2 reference library
-	@$(MAKE) --no-print-directory expected tails compared
+	@$(MAKE) --no-print-directory lint expected tails compared
 	@rt fmt --check
 	@rt ci
 
+# The Rust side's layout and lints.
+lint:
+	cd rust && $(CARGO) fmt --check
+	cd rust && $(CARGO) clippy --offline --quiet --workspace --all-targets -- -D warnings
+
 # The second program and its own tests.
 reference:
-	cd reference && $(CARGO) test --release --offline --quiet
+	cd rust && $(CARGO) test --release --offline --quiet
 
 tools:
 	@mkdir -p target
-	@cd reference && $(CARGO) build --release --offline --quiet
+	@cd rust && $(CARGO) build --release --offline --quiet
+
+# The command-line tool, over the proved library.
+tool: library
+	@cd rust && $(CARGO) build --release --offline --quiet -p snowpulley-cli
 
 # The replay program, and what the library for C and Rust is made of.
 proved:
-	@mkdir -p $(SAMPLE)
-	@rt check replay ring >$(SAMPLE)/proved.log 2>&1 || { cat $(SAMPLE)/proved.log; exit 1; }
+	@echo "Proving the replay program and what the library is made of, some minutes from nothing:"
+	@$(call told,proved.log,rt check replay ring)
 
 # The proved replay program.
 .PHONY: target/bin/replay
 target/bin/replay: tools
-	@mkdir -p $(SAMPLE)
-	@rt check replay >$(SAMPLE)/check.log 2>&1 || { cat $(SAMPLE)/check.log; exit 1; }
+	@$(call told,check.log,rt check replay)
 
 # Journals that are empty, end inside a record or have a LEN out of range.
 TAILS = empty clean time no-frame len no-body body checksum len-5 len-599 len-65535
@@ -46,38 +66,39 @@ tails: target/bin/replay
 	done
 	@echo "replay of $(TAILS): as expected"
 
-# The proved library for C and Rust, target/staticlib/libcapi.a.
-library:
-	@mkdir -p $(SAMPLE)
-	@rt staticlib capi >$(SAMPLE)/library.log 2>&1 || { cat $(SAMPLE)/library.log; exit 1; }
+# The proved library for C and Rust, made again where something that it may depend on has changed.
+library: $(LIBRARY)
+$(LIBRARY): crates.txt $(shell find crates -name '*.rt' -o -name '*.antt')
+	@echo "Proving the library, some minutes from nothing and one for its last crate, capi:"
+	@$(call told,library.log,rt staticlib capi)
 
-# The C example, the wrapper, and every family of calls against the second program, with fixed seeds.
+# The C example, the wrapper, the tool, and every family of calls against the second program, with fixed seeds.
 differential: library
 	@$(MAKE) --no-print-directory compared
 
 compared:
-	cd reference && $(CARGO) test --release --offline --quiet -p snowpulley-capi -p snowpulley-differential
+	cd rust && $(CARGO) test --release --offline --quiet $(LINKED)
 
 # The same for as long as one likes: make fuzz SECONDS=600 SEED=7
 SECONDS = 60
 SEED = 1
 fuzz: library
-	cd reference && $(CARGO) run --release --offline --quiet -p snowpulley-differential --bin fuzz -- $(SECONDS) $(SEED)
+	cd rust && $(CARGO) run --release --offline --quiet -p snowpulley-differential --bin fuzz -- $(SECONDS) $(SEED)
 
 # The proved library beside the second program, and the two replay programs.
 bench: library target/bin/replay
-	cd reference && $(CARGO) run --release --offline --quiet -p snowpulley-bench
-	cd reference && $(CARGO) run --release --offline --quiet -p snowpulley-bench -- replay ../target/bin/replay
+	cd rust && $(CARGO) run --release --offline --quiet -p snowpulley-bench
+	cd rust && $(CARGO) run --release --offline --quiet -p snowpulley-bench -- replay ../target/bin/replay
 
 # Mutants of the code, and of the definitions that contracts cite: make mutants CRATE=store N=60 SEED=7 (no CRATE: every crate)
 CRATE =
 N = 150
 mutants:
-	cd reference && $(CARGO) run --release --offline --quiet -p snowpulley-mutants -- run $(addprefix --crate ,$(CRATE)) --code $(N) --seed $(SEED) ..
+	cd rust && $(CARGO) run --release --offline --quiet -p snowpulley-mutants -- run $(addprefix --crate ,$(CRATE)) --code $(N) --seed $(SEED) ..
 
 # Each wrong answer below crates/*/must-fail/quick, tried in seconds: make wrong-answers CRATE=store (no CRATE: every crate)
 wrong-answers:
-	cd reference && $(CARGO) run --release --offline --quiet -p snowpulley-mutants -- edits $(addprefix --crate ,$(CRATE)) ..
+	cd rust && $(CARGO) run --release --offline --quiet -p snowpulley-mutants -- edits $(addprefix --crate ,$(CRATE)) ..
 
 # What the proved programs are held to is what the second program writes.
 expected: tools
@@ -90,4 +111,4 @@ expected: tools
 
 fmt:
 	rt fmt
-	cd reference && $(CARGO) fmt
+	cd rust && $(CARGO) fmt

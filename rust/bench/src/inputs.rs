@@ -1,0 +1,56 @@
+//! The stores, frames and rings that the calls are given.
+
+use reference::peers::PeerTable;
+use reference::stamp::Stamp;
+use reference::store::{create, image_length, offer};
+use support::Rng;
+
+pub const SLOTS: usize = 100;
+
+/// The held entries' stamp, one below it and one above it.
+pub const OLD: Stamp = at(500);
+pub const HELD: Stamp = at(1000);
+pub const NEW: Stamp = at(1500);
+
+const fn at(phys: u64) -> Stamp {
+    Stamp {
+        phys,
+        logical: 0,
+        node: 2,
+    }
+}
+
+/// Keys with even numbers are held; odd ones fall between them.
+pub fn key(number: usize) -> Vec<u8> {
+    format!("setting-{number:03}").into_bytes()
+}
+
+pub fn value(length: usize) -> Vec<u8> {
+    Rng::new(length as u64).bytes(length)
+}
+
+/// A store of 100 slots that holds so many keys from `first` on, every
+/// second number.
+pub fn store(first: usize, used: usize, length: usize, stamp: Stamp) -> Vec<u8> {
+    let mut image = vec![0; image_length(SLOTS)];
+    create(&mut image, SLOTS).expect("a right length");
+    for index in 0..used {
+        let key = key(first + 2 * index);
+        offer(&mut image, &key, &value(length), 0, stamp).expect("a right entry");
+    }
+    image
+}
+
+/// Ten ids and a table with their rows, for both sides.
+pub fn peers() -> (Vec<u8>, PeerTable, snowpulley::PeerTable) {
+    let ids: Vec<u8> = (1..=10).map(|n| n * 23).collect();
+    let mut reference = PeerTable::fresh(ids[0], [10, 0, 0, 1], 7000, 1, 0).expect("a right time");
+    let mut proved =
+        snowpulley::PeerTable::fresh(ids[0], [10, 0, 0, 1], 7000, 1, 0).expect("a right time");
+    for &id in &ids[1..] {
+        let address = [10, 0, 0, id];
+        reference = reference.add(id, address, 7000, 1, 0).expect("a new id");
+        proved.add(id, address, 7000, 1, 0).expect("a new id");
+    }
+    (ids, reference, proved)
+}

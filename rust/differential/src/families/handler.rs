@@ -1,0 +1,97 @@
+//! Whole journals of requests against a live store, and single requests to
+//! anything.
+
+use super::clock::any_clock;
+use super::image::{damage, empty, filled, slots};
+use super::message::{any_frame, damaged, odd_frame};
+use crate::make::{any_time, pick};
+use crate::run::{cases, Run, Tally};
+use crate::same;
+use reference::stamp::TIME_END;
+use support::Rng;
+
+pub fn run(seed: u64, count: u64) -> Tally {
+    cases("handler", seed, count, case)
+}
+
+fn case(run: &mut Run, rng: &mut Rng) {
+    match rng.below(3) {
+        0 => single(run, rng),
+        _ => journal(run, rng),
+    }
+}
+
+/// A reply buffer with something in it; few are too short.
+fn reply(rng: &mut Rng) -> Vec<u8> {
+    let length = match rng.below(20) {
+        0 => pick(rng, &[0, 1, 8, 9, 599]),
+        1 => 601 + rng.index(50),
+        _ => 600,
+    };
+    rng.bytes(length)
+}
+
+/// The store, the clock and the reply buffer.
+type State = (Vec<u8>, Vec<u64>, Vec<u8>);
+
+fn request(run: &mut Run, state: &mut State, now: u64, frame: &[u8]) {
+    same!(run, handle, state, |l| (
+        &mut l.0, &mut l.1, now, frame, &mut l.2
+    ));
+}
+
+fn journal(run: &mut Run, rng: &mut Rng) {
+    let slots = slots(rng);
+    let mut state = (empty(slots), start_clock(rng), vec![]);
+    let mut now = state.1[0];
+    for _ in 0..60 {
+        now = next_time(rng, now);
+        state.2 = reply(rng);
+        let frame = any_frame(rng, now);
+        request(run, &mut state, now, &frame);
+    }
+}
+
+/// A fresh clock, or one close to the limits.
+fn start_clock(rng: &mut Rng) -> Vec<u64> {
+    let node = rng.below(4);
+    match rng.below(4) {
+        0 => vec![TIME_END - 9000, 65_500, node, (1 << 32) - 4],
+        1 => vec![rng.below(30_000), 65_520, node, 0],
+        _ => vec![0, 0, node, 0],
+    }
+}
+
+/// The readings go on, stand still, go back, or far ahead.
+fn next_time(rng: &mut Rng, now: u64) -> u64 {
+    match rng.below(12) {
+        0 => now.saturating_sub(rng.below(4000)),
+        1 => (now + 1500 + rng.below(1000)).min(TIME_END),
+        2..=6 => now,
+        _ => (now + rng.below(3)).min(TIME_END),
+    }
+}
+
+fn single(run: &mut Run, rng: &mut Rng) {
+    let slots = slots(rng);
+    let mut store = filled(rng, slots);
+    if rng.one_in(2) {
+        damage(rng, &mut store);
+    }
+    let mut state = (store, vec![], vec![]);
+    for _ in 0..4 {
+        let now = any_time(rng);
+        state.1 = any_clock(rng);
+        state.2 = reply(rng);
+        // Several faults at once show the order of the checks.
+        let mut frame = if rng.one_in(2) {
+            any_frame(rng, now.min(TIME_END))
+        } else {
+            odd_frame(rng)
+        };
+        if rng.one_in(4) {
+            damaged(rng, &mut frame);
+        }
+        request(run, &mut state, now, &frame);
+    }
+}

@@ -1,0 +1,143 @@
+//! Histories of offers and merges over several stores, and calls on damaged
+//! images.
+
+use super::image::{self, damage, empty, filled, slots, small_stamp};
+use crate::make::{
+    any_key, any_time, any_value, flag, good_value, logical, near, pick, pool_key, words,
+};
+use crate::run::{cases, Run, Tally};
+use crate::same;
+use reference::stamp::Stamp;
+use reference::store::image_length;
+use support::Rng;
+
+pub fn run(seed: u64, count: u64) -> Tally {
+    cases("store", seed, count, case)
+}
+
+fn case(run: &mut Run, rng: &mut Rng) {
+    match rng.below(40) {
+        0 => every_byte(run, rng),
+        1..=15 => damaged(run, rng),
+        _ => history(run, rng),
+    }
+}
+
+fn create(run: &mut Run, rng: &mut Rng) -> Vec<u8> {
+    let slots = slots(rng);
+    let asked = match rng.below(8) {
+        0 => near(rng, slots),
+        1 => pick(rng, &[0, 101, 102, usize::MAX, usize::MAX / 596]),
+        _ => slots,
+    };
+    let length = match rng.below(8) {
+        0 => near(rng, image_length(slots)),
+        _ => image_length(slots),
+    };
+    let mut image = rng.bytes(length);
+    let result = same!(run, store_create, &mut image, |s| (s, asked));
+    if result == 0 {
+        image
+    } else {
+        empty(slots)
+    }
+}
+
+/// An entry that is right, mostly with a small stamp.
+fn offer_good(run: &mut Run, rng: &mut Rng, store: &mut Vec<u8>) {
+    let key = pool_key(rng);
+    let flag = u8::from(rng.one_in(4));
+    let value = if flag == 1 { vec![] } else { good_value(rng) };
+    let Stamp {
+        phys,
+        logical,
+        node,
+    } = small_stamp(rng);
+    same!(run, store_offer, store, |s| (
+        s, &key, &value, flag, phys, logical, node
+    ));
+}
+
+/// Any entry at all.
+fn offer_any(run: &mut Run, rng: &mut Rng, store: &mut Vec<u8>) {
+    let (key, value, flag) = (any_key(rng), any_value(rng), flag(rng));
+    let value = if rng.one_in(2) { vec![] } else { value };
+    let (phys, logical, node) = (any_time(rng), logical(rng), rng.byte());
+    same!(run, store_offer, store, |s| (
+        s, &key, &value, flag, phys, logical, node
+    ));
+}
+
+fn lookup(run: &mut Run, rng: &mut Rng, store: &[u8]) {
+    let key = if rng.one_in(4) {
+        any_key(rng)
+    } else {
+        pool_key(rng)
+    };
+    let length = near(rng, 2);
+    let mut lent = (store.to_vec(), words(rng, length));
+    same!(run, store_lookup, &mut lent, |l| (&l.0, &key, &mut l.1));
+}
+
+fn history(run: &mut Run, rng: &mut Rng) {
+    let mut stores: Vec<Vec<u8>> = (0..3).map(|_| create(run, rng)).collect();
+    for _ in 0..40 {
+        let at = rng.index(stores.len());
+        match rng.below(10) {
+            0 => offer_any(run, rng, &mut stores[at]),
+            1 | 2 => {
+                let giver = stores[rng.index(3)].clone();
+                let receiver = std::mem::take(&mut stores[at]);
+                stores[at] = merge(run, receiver, giver);
+            }
+            3 | 4 => lookup(run, rng, &stores[at]),
+            _ => offer_good(run, rng, &mut stores[at]),
+        }
+    }
+    for store in &mut stores {
+        same!(run, store_is_sound, store, |s| (s));
+    }
+}
+
+fn merge(run: &mut Run, receiver: Vec<u8>, giver: Vec<u8>) -> Vec<u8> {
+    let mut lent = (receiver, giver);
+    same!(run, store_merge, &mut lent, |l| (&mut l.0, &l.1));
+    lent.0
+}
+
+fn damaged(run: &mut Run, rng: &mut Rng) {
+    let slots = slots(rng);
+    let mut store = filled(rng, slots);
+    let whole = filled(rng, slots);
+    damage(rng, &mut store);
+    if rng.one_in(8) {
+        damage_again(rng, &mut store);
+    }
+    same!(run, store_is_sound, &mut store, |s| (s));
+    for _ in 0..4 {
+        lookup(run, rng, &store);
+    }
+    merge(run, whole.clone(), store.clone());
+    merge(run, store.clone(), store.clone());
+    merge(run, store.clone(), whole);
+    offer_good(run, rng, &mut store);
+    offer_any(run, rng, &mut store);
+    let mut short = store[..rng.index(20).min(store.len())].to_vec();
+    same!(run, store_is_sound, &mut short, |s| (s));
+}
+
+/// Soundness with every byte of a small store changed in turn.
+fn every_byte(run: &mut Run, rng: &mut Rng) {
+    let slots = 1 + rng.index(2);
+    let store = filled(rng, slots);
+    for mut changed in image::every_byte(rng, &store) {
+        same!(run, store_is_sound, &mut changed, |s| (s));
+    }
+}
+
+/// A second fault; it needs a header to find the slots by.
+fn damage_again(rng: &mut Rng, store: &mut Vec<u8>) {
+    if reference::store::is_sound(store) {
+        damage(rng, store);
+    }
+}

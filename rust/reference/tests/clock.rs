@@ -1,0 +1,120 @@
+//! The hybrid clock.
+
+use reference::clock::Clock;
+use reference::Refusal;
+use support::Rng;
+
+const LAST: u64 = (1 << 48) - 1;
+
+fn clock(phys: u64, logical: u16) -> Clock {
+    Clock {
+        phys,
+        logical,
+        node: 7,
+        skew: 3,
+    }
+}
+
+fn skewed(phys: u64, logical: u16) -> Clock {
+    Clock {
+        skew: 4,
+        ..clock(phys, logical)
+    }
+}
+
+#[test]
+fn a_fresh_clock_is_at_zero() {
+    let fresh = Clock::fresh(9);
+    assert_eq!((fresh.phys, fresh.logical), (0, 0));
+    assert_eq!((fresh.node, fresh.skew), (9, 0));
+    assert_eq!(fresh.send(0).unwrap().logical, 1);
+}
+
+#[test]
+fn send_points() {
+    assert_eq!(clock(1000, 5).send(1000), Ok(clock(1000, 6)));
+    assert_eq!(clock(1000, 5).send(1001), Ok(clock(1001, 0)));
+    assert_eq!(clock(1000, 5).send(400), Ok(clock(1000, 6)));
+    assert_eq!(clock(1000, 65_534).send(1000), Ok(clock(1000, 65_535)));
+    assert_eq!(clock(1000, 65_535).send(1000), Err(Refusal::ClockSpent));
+    assert_eq!(clock(1000, 65_535).send(0), Err(Refusal::ClockSpent));
+    assert_eq!(clock(1000, 65_535).send(1001), Ok(clock(1001, 0)));
+}
+
+#[test]
+fn receive_points() {
+    let start = clock(1000, 5);
+    assert_eq!(start.receive(3000, 2, 1000), Ok(clock(3000, 3)));
+    assert_eq!(start.receive(3001, 2, 1000), Ok(skewed(1000, 6)));
+    assert_eq!(start.receive(1001, 9, 1000), Ok(clock(1001, 10)));
+    assert_eq!(start.receive(1000, 9, 1000), Ok(clock(1000, 6)));
+    assert_eq!(start.receive(999, 9, 1000), Ok(clock(1000, 6)));
+    assert_eq!(start.receive(1001, 0, 5000), Ok(clock(1001, 1)));
+    assert_eq!(start.receive(999, 0, 5000), Ok(clock(1000, 6)));
+}
+
+#[test]
+fn far_ahead_takes_the_later_of_clock_and_now() {
+    assert_eq!(clock(1000, 5).receive(9000, 2, 2000), Ok(skewed(2000, 6)));
+    assert_eq!(clock(9500, 5).receive(9000, 2, 2000), Ok(skewed(9500, 6)));
+    assert_eq!(clock(2000, 5).receive(9000, 2, 2000), Ok(skewed(2000, 6)));
+}
+
+#[test]
+fn a_spent_count_refuses_every_receive_that_raises_it() {
+    let spent = clock(1000, 65_535);
+    assert_eq!(spent.receive(9000, 0, 1000), Err(Refusal::ClockSpent));
+    assert_eq!(spent.receive(1000, 0, 1000), Err(Refusal::ClockSpent));
+    assert_eq!(spent.receive(999, 0, 1000), Err(Refusal::ClockSpent));
+    assert_eq!(spent.receive(1001, 0, 1000), Ok(clock(1001, 1)));
+    let start = clock(1000, 5);
+    assert_eq!(start.receive(1001, 65_535, 1000), Err(Refusal::ClockSpent));
+    assert_eq!(start.receive(1001, 65_534, 1000), Ok(clock(1001, 65_535)));
+    assert_eq!(start.receive(1000, 65_535, 1000), Ok(clock(1000, 6)));
+    assert_eq!(start.receive(9000, 65_535, 1000), Ok(skewed(1000, 6)));
+}
+
+#[test]
+fn the_skew_count_stops_at_its_greatest() {
+    let mut near = clock(1000, 5);
+    near.skew = u32::MAX - 1;
+    let full = near.receive(9000, 0, 1000).unwrap();
+    assert_eq!(full.skew, u32::MAX);
+    assert_eq!(full.receive(9000, 0, 1000).unwrap().skew, u32::MAX);
+}
+
+#[test]
+fn times_out_of_range_come_before_a_spent_count() {
+    let bad = Err(Refusal::BadTime);
+    for time in [LAST + 1, u64::MAX] {
+        assert_eq!(clock(1000, 65_535).send(time), bad);
+        assert_eq!(clock(time, 65_535).send(0), bad);
+        assert_eq!(clock(1000, 65_535).receive(0, 0, time), bad);
+        assert_eq!(clock(1000, 65_535).receive(time, 0, 0), bad);
+        assert_eq!(clock(time, 65_535).receive(0, 0, 0), bad);
+    }
+    assert_eq!(clock(0, 5).send(LAST), Ok(clock(LAST, 0)));
+    assert_eq!(clock(LAST, 5).send(LAST), Ok(clock(LAST, 6)));
+    assert_eq!(clock(0, 5).receive(LAST, 1, LAST), Ok(clock(LAST, 2)));
+    assert_eq!(clock(0, 5).receive(LAST, 1, 0), Ok(skewed(0, 6)));
+}
+
+#[test]
+fn every_step_raises_the_stamp() {
+    let mut rng = Rng::new(2);
+    let mut held = Clock::fresh(1);
+    for _ in 0..100_000 {
+        let now = held.phys.saturating_sub(20) + rng.below(45);
+        let next = if rng.one_in(2) {
+            held.send(now)
+        } else {
+            held.receive(now + rng.below(2100), rng.below(4) as u16, now)
+        };
+        let next = next.expect("the count stays small");
+        assert!(next.stamp() > held.stamp());
+        assert!(next.skew == held.skew || next.skew == held.skew + 1);
+        assert_eq!(next.node, held.node);
+        held = next;
+    }
+    assert!(held.skew > 0);
+}

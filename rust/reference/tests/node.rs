@@ -1,0 +1,463 @@
+//! The request handler.
+
+use reference::clock::Clock;
+use reference::frame::{read, sealed, Message};
+use reference::node::{handle, Answer};
+use reference::stamp::Stamp;
+use reference::store::{create, entries, image_length, is_sound, offer};
+use reference::Refusal;
+use std::collections::BTreeMap;
+use support::Rng;
+
+const LATE: u64 = 1 << 48;
+
+fn fresh(slots: usize) -> Vec<u8> {
+    let mut image = vec![0; image_length(slots)];
+    create(&mut image, slots).unwrap();
+    image
+}
+
+fn framed(message: &Message) -> Vec<u8> {
+    let mut out = [0; 600];
+    let length = message.write(&mut out).unwrap();
+    out[..length].to_vec()
+}
+
+fn put(key: &[u8], value: &[u8]) -> Vec<u8> {
+    framed(&Message::Put {
+        key: key.to_vec(),
+        value: value.to_vec(),
+    })
+}
+
+fn get(key: &[u8]) -> Vec<u8> {
+    framed(&Message::Get { key: key.to_vec() })
+}
+
+fn del(key: &[u8]) -> Vec<u8> {
+    framed(&Message::Del { key: key.to_vec() })
+}
+
+fn stamp(phys: u64, logical: u16, node: u8) -> Stamp {
+    Stamp {
+        phys,
+        logical,
+        node,
+    }
+}
+
+fn repl(key: &[u8], flag: u8, stamp: Stamp, value: &[u8]) -> Vec<u8> {
+    framed(&Message::Repl {
+        key: key.to_vec(),
+        flag,
+        stamp,
+        value: value.to_vec(),
+    })
+}
+
+fn value(value: &[u8]) -> Message {
+    Message::Value {
+        value: value.to_vec(),
+    }
+}
+
+fn clock(phys: u64, logical: u16) -> Clock {
+    Clock {
+        phys,
+        logical,
+        node: 1,
+        skew: 0,
+    }
+}
+
+/// A store and a clock, and the checks that hold for every call.
+struct Node {
+    clock: Clock,
+    store: Vec<u8>,
+}
+
+impl Node {
+    fn new(slots: usize) -> Node {
+        Node {
+            clock: Clock::fresh(1),
+            store: fresh(slots),
+        }
+    }
+
+    fn ask(&mut self, now: u64, frame: &[u8]) -> Message {
+        let mut reply = [0xA5; 603];
+        let before = self.store.clone();
+        let answer = handle(self.clock, &mut self.store, now, frame, &mut reply);
+        let message = read(&reply[..answer.length]).unwrap();
+        assert!(reply[answer.length..].iter().all(|&b| b == 0xA5));
+        if let Some(refusal) = answer.refusal {
+            let number = refusal.number();
+            assert_eq!(message, Message::Err { number });
+            assert_eq!(answer.length, 9);
+            assert_eq!(answer.clock, self.clock);
+            assert_eq!(self.store, before);
+        }
+        self.clock = answer.clock;
+        message
+    }
+
+    fn refused(&mut self, now: u64, frame: &[u8], refusal: Refusal) {
+        let number = refusal.number();
+        assert_eq!(self.ask(now, frame), Message::Err { number });
+    }
+
+    fn ok(&mut self, now: u64, frame: &[u8]) {
+        assert_eq!(self.ask(now, frame), Message::Ok);
+    }
+}
+
+#[test]
+fn put_get_del() {
+    let mut node = Node::new(2);
+    assert_eq!(node.ask(1000, &get(b"k1")), Message::NotFound);
+    assert_eq!(node.clock, Clock::fresh(1));
+    node.ok(1000, &put(b"k1", b"on"));
+    assert_eq!(node.clock, clock(1000, 0));
+    assert_eq!(node.ask(1000, &get(b"k1")), value(b"on"));
+    node.ok(900, &put(b"k1", b""));
+    assert_eq!(node.ask(900, &get(b"k1")), value(b""));
+    assert_eq!(node.clock, clock(1000, 1));
+    node.ok(1001, &del(b"k1"));
+    assert_eq!(node.ask(1001, &get(b"k1")), Message::NotFound);
+    node.ok(1001, &del(b"never"));
+    assert_eq!(node.ask(1001, &get(b"never")), Message::NotFound);
+    let held = entries(&node.store).unwrap();
+    assert_eq!((held[0].flag, held[0].stamp), (1, stamp(1001, 0, 1)));
+    assert_eq!((held[1].flag, held[1].stamp), (1, stamp(1001, 1, 1)));
+    node.refused(1002, &put(b"third", b""), Refusal::StoreFull);
+    node.refused(1002, &del(b"third"), Refusal::StoreFull);
+    assert_eq!(node.clock, clock(1001, 1));
+}
+
+#[test]
+fn replicated_entries_keep_their_stamps() {
+    let mut node = Node::new(3);
+    node.ok(1000, &repl(b"far", 0, stamp(3001, 8, 9), b"x"));
+    assert_eq!(
+        node.clock,
+        Clock {
+            skew: 1,
+            ..clock(1000, 1)
+        }
+    );
+    assert_eq!(entries(&node.store).unwrap()[0].stamp, stamp(3001, 8, 9));
+    node.ok(1000, &repl(b"near", 0, stamp(3000, 8, 9), b"y"));
+    assert_eq!(
+        node.clock,
+        Clock {
+            skew: 1,
+            ..clock(3000, 9)
+        }
+    );
+    let before = node.store.clone();
+    node.ok(1000, &repl(b"near", 0, stamp(3000, 8, 9), b"z"));
+    node.ok(1000, &repl(b"near", 1, stamp(2999, 9, 9), b""));
+    assert_eq!(node.store, before);
+    assert_eq!(
+        node.clock,
+        Clock {
+            skew: 1,
+            ..clock(3000, 11)
+        }
+    );
+    node.ok(1000, &repl(b"near", 1, stamp(3000, 8, 10), b""));
+    assert_eq!(node.ask(1000, &get(b"near")), Message::NotFound);
+    node.ok(1000, &repl(b"third", 0, stamp(1, 0, 0), b""));
+    node.refused(
+        1000,
+        &repl(b"fourth", 0, stamp(1, 0, 0), b""),
+        Refusal::StoreFull,
+    );
+}
+
+#[test]
+fn local_writes_can_be_overtaken() {
+    let mut node = Node::new(2);
+    node.ok(1000, &repl(b"k", 0, stamp(9000, 0, 1), b"far"));
+    node.refused(2000, &put(b"k", b"mine"), Refusal::Overtaken);
+    node.refused(2000, &del(b"k"), Refusal::Overtaken);
+    assert_eq!(
+        node.clock,
+        Clock {
+            skew: 1,
+            ..clock(1000, 1)
+        }
+    );
+    node.refused(9000, &put(b"k", b"equal stamp"), Refusal::Overtaken);
+    node.ok(9001, &put(b"k", b"mine"));
+    assert_eq!(node.ask(9001, &get(b"k")), value(b"mine"));
+}
+
+#[test]
+fn a_spent_clock_stops_writes_but_not_reads() {
+    let mut node = Node::new(1);
+    node.ok(1000, &repl(b"k", 0, stamp(1500, 65_534, 2), b"v"));
+    assert_eq!(node.clock, clock(1500, 65_535));
+    node.refused(1500, &put(b"k", b""), Refusal::ClockSpent);
+    node.refused(1500, &put(b"other", b""), Refusal::ClockSpent);
+    node.refused(1000, &del(b"k"), Refusal::ClockSpent);
+    node.refused(
+        1500,
+        &repl(b"k", 0, stamp(1500, 0, 0), b""),
+        Refusal::ClockSpent,
+    );
+    node.refused(
+        1500,
+        &repl(b"k", 0, stamp(9000, 0, 0), b""),
+        Refusal::ClockSpent,
+    );
+    node.refused(
+        1500,
+        &repl(b"k", 0, stamp(1501, 65_535, 0), b""),
+        Refusal::ClockSpent,
+    );
+    assert_eq!(node.ask(1500, &get(b"k")), value(b"v"));
+    node.ok(1501, &put(b"k", b"w"));
+}
+
+#[test]
+fn reply_types_are_bad_frames() {
+    let mut node = Node::new(1);
+    let too_large = [vec![2, 1], vec![0; 513]].concat();
+    let frames = [
+        framed(&Message::Ok),
+        framed(&value(b"v")),
+        framed(&Message::NotFound),
+        framed(&Message::Err { number: 4 }),
+        sealed(17, 0, &too_large),
+        sealed(19, 0, &[]),
+        sealed(0, 0, &[]),
+        sealed(5, 0, &[]),
+        Vec::new(),
+        vec![0],
+        vec![0; 601],
+    ];
+    for frame in frames {
+        node.refused(1000, &frame, Refusal::BadFrame);
+    }
+}
+
+#[test]
+fn largest_request_and_reply() {
+    let mut node = Node::new(1);
+    let (key, full) = ([b'K'; 64], [9; 512]);
+    node.ok(1, &put(&key, &full));
+    assert_eq!(node.ask(1, &get(&key)), value(&full));
+    node.ok(1, &repl(&key, 0, stamp(LATE - 1, 65_535, 255), &full));
+    node.refused(LATE - 1, &put(&key, b""), Refusal::Overtaken);
+}
+
+/// Answers with every fault from `from` on, in the handler's order of checks.
+fn with_faults_from(from: usize) -> Answer {
+    let mut store = fresh(1);
+    offer(&mut store, b"held", b"", 0, stamp(9000, 0, 0)).unwrap();
+    if from <= 1 {
+        store[15] = 1;
+    }
+    let now = if from <= 2 { LATE } else { 1000 };
+    let logical = if from <= 6 { 65_535 } else { 0 };
+    let mut frame = match from {
+        0..=4 => sealed(1, 0, &[vec![0, 2, 1], vec![0; 513]].concat()),
+        5 => sealed(1, 0, &[vec![1, b'k', 2, 1], vec![0; 513]].concat()),
+        6 | 7 => put(b"other", b""),
+        _ => put(b"held", b""),
+    };
+    if from <= 3 {
+        frame.push(0);
+    }
+    let mut reply = [0xA5; 600];
+    let room = if from == 0 { 599 } else { 600 };
+    let before = store.clone();
+    let answer = handle(
+        clock(1000, logical),
+        &mut store,
+        now,
+        &frame,
+        &mut reply[..room],
+    );
+    assert_eq!(answer.clock, clock(1000, logical));
+    assert_eq!(store, before);
+    assert!(reply[answer.length..].iter().all(|&b| b == 0xA5));
+    answer
+}
+
+#[test]
+fn the_order_of_refusals() {
+    let order = [4, 5, 9, 3, 1, 2, 8, 6, 7];
+    for (from, number) in order.into_iter().enumerate() {
+        let answer = with_faults_from(from);
+        assert_eq!(answer.refusal, Refusal::from_number(number));
+        assert_eq!(answer.length, if number == 4 { 0 } else { 9 });
+    }
+}
+
+#[test]
+fn times_are_checked_for_every_request() {
+    let mut node = Node::new(1);
+    for frame in [get(b"k"), put(b"k", b""), vec![0]] {
+        node.refused(LATE, &frame, Refusal::BadTime);
+        node.refused(u64::MAX, &frame, Refusal::BadTime);
+    }
+    node.clock.phys = LATE;
+    node.refused(0, &get(b"k"), Refusal::BadTime);
+    node.refused(0, &put(b"k", b""), Refusal::BadTime);
+    node.refused(0, &[], Refusal::BadTime);
+}
+
+/// The handler's rules once more, over a map.
+struct Naive {
+    slots: usize,
+    clock: (u64, u64),
+    skew: u32,
+    held: BTreeMap<Vec<u8>, (Stamp, Option<Vec<u8>>)>,
+}
+
+impl Naive {
+    fn answer(&mut self, now: u64, request: &Message) -> Message {
+        let outcome = match request {
+            Message::Put { key, value } => self.local(now, key, Some(value.clone())),
+            Message::Del { key } => self.local(now, key, None),
+            Message::Get { key } => {
+                return match self.held.get(key) {
+                    Some((_, Some(value))) => Message::Value {
+                        value: value.clone(),
+                    },
+                    _ => Message::NotFound,
+                }
+            }
+            Message::Repl {
+                key,
+                flag,
+                stamp,
+                value,
+            } => self.replicate(now, key, *stamp, (*flag == 0).then(|| value.clone())),
+            _ => Err(3),
+        };
+        outcome.map_or_else(|number| Message::Err { number }, |()| Message::Ok)
+    }
+
+    fn local(&mut self, now: u64, key: &[u8], value: Option<Vec<u8>>) -> Result<(), u8> {
+        let next = if now > self.clock.0 {
+            (now, 0)
+        } else {
+            (self.clock.0, self.clock.1 + 1)
+        };
+        if next.1 > 65_535 {
+            return Err(8);
+        }
+        let stamp = stamp(next.0, next.1 as u16, 1);
+        if self.held.get(key).is_some_and(|(held, _)| *held >= stamp) {
+            return Err(7);
+        }
+        self.hold(key, stamp, value)?;
+        self.clock = next;
+        Ok(())
+    }
+
+    fn replicate(
+        &mut self,
+        now: u64,
+        key: &[u8],
+        stamp: Stamp,
+        value: Option<Vec<u8>>,
+    ) -> Result<(), u8> {
+        let far = stamp.phys > now + 2000;
+        let next = match (far, stamp.phys > self.clock.0) {
+            (true, _) => (self.clock.0.max(now), self.clock.1 + 1),
+            (false, true) => (stamp.phys, u64::from(stamp.logical) + 1),
+            (false, false) => (self.clock.0, self.clock.1 + 1),
+        };
+        if next.1 > 65_535 {
+            return Err(8);
+        }
+        if self.held.get(key).is_none_or(|(held, _)| *held < stamp) {
+            self.hold(key, stamp, value)?;
+        }
+        self.clock = next;
+        self.skew += u32::from(far);
+        Ok(())
+    }
+
+    fn hold(&mut self, key: &[u8], stamp: Stamp, value: Option<Vec<u8>>) -> Result<(), u8> {
+        if !self.held.contains_key(key) && self.held.len() == self.slots {
+            return Err(6);
+        }
+        self.held.insert(key.to_vec(), (stamp, value));
+        Ok(())
+    }
+}
+
+fn random_request(rng: &mut Rng, now: u64) -> Message {
+    let key = vec![b'a' + rng.below(6) as u8; 1 + rng.index(2)];
+    let length = rng.index(6);
+    let value = rng.bytes(length);
+    let logical = if rng.one_in(3) {
+        65_533 + rng.below(3)
+    } else {
+        rng.below(4)
+    };
+    let stamp = Stamp {
+        phys: now.saturating_sub(20) + rng.below(40) + rng.below(2) * 1980,
+        logical: logical as u16,
+        node: rng.below(3) as u8,
+    };
+    match rng.below(10) {
+        0..=2 => Message::Put { key, value },
+        3 | 4 => Message::Get { key },
+        5 => Message::Del { key },
+        6 => Message::Repl {
+            key,
+            flag: 1,
+            stamp,
+            value: Vec::new(),
+        },
+        7 | 8 => Message::Repl {
+            key,
+            flag: 0,
+            stamp,
+            value,
+        },
+        _ => Message::Ok,
+    }
+}
+
+#[test]
+fn random_requests_agree_with_the_naive_handler() {
+    let mut rng = Rng::new(15);
+    let mut numbers = [0; 18];
+    for round in 0..60 {
+        let mut node = Node::new(1 + round % 8);
+        let held = BTreeMap::new();
+        let mut naive = Naive {
+            slots: 1 + round % 8,
+            clock: (0, 0),
+            skew: 0,
+            held,
+        };
+        let mut now = 0;
+        for _ in 0..300 {
+            now = (now + rng.below(12)).saturating_sub(rng.below(10));
+            let request = random_request(&mut rng, now);
+            let reply = node.ask(now, &framed(&request));
+            assert_eq!(reply, naive.answer(now, &request));
+            assert_eq!(
+                (node.clock.phys, u64::from(node.clock.logical)),
+                naive.clock
+            );
+            assert_eq!(node.clock.skew, naive.skew);
+            if let Message::Err { number } = reply {
+                numbers[usize::from(number)] += 1;
+            }
+        }
+        assert!(is_sound(&node.store));
+        assert_eq!(entries(&node.store).unwrap().len(), naive.held.len());
+    }
+    for number in [3, 6, 7, 8] {
+        assert!(numbers[number] > 10, "{numbers:?}");
+    }
+}

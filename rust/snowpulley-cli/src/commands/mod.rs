@@ -1,0 +1,20 @@
+//! The commands, each in a module of its own.
+
+mod demo;
+mod owners;
+mod refusal;
+mod replay;
+mod ring;
+mod show;
+
+use crate::cli::Command;
+
+/// In the order in which the help lists them.
+pub const ALL: &[Command] = &[
+    demo::COMMAND,
+    show::COMMAND,
+    replay::COMMAND,
+    owners::COMMAND,
+    ring::COMMAND,
+    refusal::COMMAND,
+];

@@ -1,0 +1,7 @@
+//! Bytes, times, messages and tables for people to read.
+
+pub mod bytes;
+pub mod entries;
+pub mod message;
+pub mod table;
+pub mod time;

@@ -1,0 +1,73 @@
+//! Help, bad usage and exit statuses.
+
+mod common;
+
+use common::{run, temporary};
+
+const COMMANDS: [&str; 6] = ["demo", "show", "replay", "owners", "ring", "refusal"];
+
+#[test]
+fn the_help_lists_the_commands_and_statuses() {
+    run(&["--help"]).says(0, "help.txt");
+    assert_eq!(run(&["help"]).out, run(&["-h"]).out);
+    let version = format!("snowpulley {}\n", env!("CARGO_PKG_VERSION"));
+    assert_eq!(run(&["--version"]).out, version);
+}
+
+#[test]
+fn every_command_has_help() {
+    for command in COMMANDS {
+        let help = run(&[command, "--help"]);
+        assert_eq!(help.status, 0);
+        assert!(help.out.starts_with(&format!("snowpulley {command}")));
+        assert!(help.out.contains("Exit status: 0"));
+        assert!(help.lines().iter().all(|line| line.len() <= 100));
+        assert!(run(&["--help"]).out.contains(&format!("\n  {command} ")));
+    }
+    run(&["ring", "--help"]).says(0, "help-ring.txt");
+}
+
+#[test]
+fn bad_usage_is_told() {
+    let none = run::<&str>(&[]);
+    assert_eq!(none.status, 2);
+    assert!(none
+        .err
+        .starts_with("snowpulley: no command\n\nsnowpulley COMMAND"));
+    run(&["shwo"]).fails("no command 'shwo'; see snowpulley --help");
+    run(&["show"]).fails("show: STORE is missing");
+    run(&["show", "a", "b"]).fails("show: too many words: 'b'");
+    run(&["show", "--fill", "a"]).fails("show: no option '--fill'");
+    run(&["demo", "now"]).fails("demo: too many words: 'now'");
+    run(&["replay", "--store"]).fails("replay: --store needs a value");
+    run(&["owners", "k"]).fails("owners: --ids is missing, as --ids 1,2,3,4");
+    run(&["refusal", "x"]).fails("refusal: N: 'x' is no number from 0 to 65535");
+    run(&["refusal", "1", "2"]).fails("refusal: too many words: '2'");
+}
+
+#[test]
+fn files_that_cannot_be_used_are_named() {
+    let missing = temporary("no-such-file");
+    let name = missing.to_str().unwrap();
+    for command in ["show", "replay"] {
+        let run = run(&[command, name]);
+        assert_eq!((run.status, run.out.as_str()), (2, ""));
+        let told = format!("snowpulley: {command}: {name}: No such file");
+        assert!(run.err.starts_with(&told), "{run:?}");
+    }
+    let unwritable = format!("{name}/below");
+    let run = run(&["ring", "--ids", "1", "--svg", &unwritable]);
+    assert_eq!(run.status, 2);
+    assert!(run.err.contains(&unwritable), "{run:?}");
+}
+
+#[cfg(unix)]
+#[test]
+fn words_that_are_no_text_are_told() {
+    use std::ffi::OsStr;
+    use std::os::unix::ffi::OsStrExt;
+    let word = OsStr::from_bytes(b"k\xFF");
+    let args = ["owners", "--ids", "1,2,3"].map(OsStr::new);
+    let run = run(&[&args[..], &[word]].concat());
+    run.fails("owners: 'k\u{FFFD}' is no UTF-8 text");
+}

@@ -1,0 +1,23 @@
+//! The proved settings store through its C interface.
+//!
+//! `raw` has every function of the header over plain slices. The other
+//! modules give them types: a clock, a peer table and the answers as Rust
+//! values, and a refusal as an error.
+
+pub mod checksum;
+pub mod clock;
+pub mod entry;
+pub mod frame;
+pub mod handler;
+pub mod image;
+pub mod peers;
+pub mod raw;
+pub mod refusal;
+pub mod ring;
+pub mod store;
+
+pub use clock::Clock;
+pub use entry::{Content, Entry, Stamp};
+pub use frame::Message;
+pub use peers::{PeerTable, Row, State};
+pub use refusal::Refusal;

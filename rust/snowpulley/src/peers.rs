@@ -1,0 +1,158 @@
+//! The peer table.
+
+use crate::raw;
+use crate::refusal::{split, Refusal};
+use snowpulley_sys::SP_PEERS_WORDS;
+
+pub const ROWS_MAX: usize = 10;
+const ROW_WORDS: usize = 6;
+
+/// A peer's state; a later one is worse.
+#[derive(Clone, Copy, Debug, PartialEq, Eq, PartialOrd, Ord)]
+#[repr(u8)]
+pub enum State {
+    Alive = 0,
+    Suspect = 1,
+    Down = 2,
+}
+
+impl State {
+    fn from_word(word: u64) -> Option<State> {
+        let states = [State::Alive, State::Suspect, State::Down];
+        states.into_iter().find(|&state| state as u64 == word)
+    }
+}
+
+#[derive(Clone, Copy, Debug, PartialEq, Eq)]
+pub struct Row {
+    pub id: u8,
+    pub address: [u8; 4],
+    pub port: u16,
+    pub state: State,
+    pub incarnation: u32,
+    pub seen: u64,
+}
+
+impl Row {
+    fn words(&self) -> [u64; ROW_WORDS] {
+        [
+            self.id.into(),
+            u32::from_be_bytes(self.address).into(),
+            self.port.into(),
+            self.state as u64,
+            self.incarnation.into(),
+            self.seen,
+        ]
+    }
+
+    fn from_words(words: &[u64]) -> Option<Row> {
+        let [id, address, port, state, incarnation, seen] = words.try_into().ok()?;
+        Some(Row {
+            id: id.try_into().ok()?,
+            address: u32::try_from(address).ok()?.to_be_bytes(),
+            port: port.try_into().ok()?,
+            state: State::from_word(state)?,
+            incarnation: incarnation.try_into().ok()?,
+            seen,
+        })
+    }
+}
+
+/// The first `count` rows are the table.
+#[derive(Clone, Copy, Debug, PartialEq, Eq)]
+pub struct PeerTable {
+    pub rows: [Row; ROWS_MAX],
+    pub count: u8,
+}
+
+impl PeerTable {
+    /// A table with the own row alone.
+    pub fn fresh(
+        id: u8,
+        address: [u8; 4],
+        port: u16,
+        incarnation: u32,
+        now: u64,
+    ) -> Result<PeerTable, Refusal> {
+        let address = u32::from_be_bytes(address);
+        let mut words = [0; SP_PEERS_WORDS];
+        split(raw::peers_fresh(
+            id,
+            address,
+            port,
+            incarnation,
+            now,
+            &mut words,
+        ))?;
+        Ok(PeerTable::returned(&words))
+    }
+
+    pub fn add(
+        &mut self,
+        id: u8,
+        address: [u8; 4],
+        port: u16,
+        incarnation: u32,
+        now: u64,
+    ) -> Result<(), Refusal> {
+        let address = u32::from_be_bytes(address);
+        self.step(|words| raw::peers_add(id, address, port, incarnation, now, words))
+    }
+
+    /// The peer itself was heard.
+    pub fn heard(&mut self, id: u8, incarnation: u32, now: u64) -> Result<(), Refusal> {
+        self.step(|words| raw::peers_heard(id, incarnation, now, words))
+    }
+
+    /// Another peer told the state of this one.
+    pub fn reported(
+        &mut self,
+        id: u8,
+        state: State,
+        incarnation: u32,
+        now: u64,
+    ) -> Result<(), Refusal> {
+        self.step(|words| raw::peers_reported(id, state as u8, incarnation, now, words))
+    }
+
+    /// Time has passed.
+    pub fn tick(&mut self, now: u64) -> Result<(), Refusal> {
+        self.step(|words| raw::peers_tick(now, words))
+    }
+
+    pub fn is_sound(&self) -> bool {
+        raw::peers_is_sound(&self.words()) == 1
+    }
+
+    pub fn words(&self) -> [u64; SP_PEERS_WORDS] {
+        let mut words = [0; SP_PEERS_WORDS];
+        words[0] = self.count.into();
+        for (place, row) in words[1..].chunks_exact_mut(ROW_WORDS).zip(&self.rows) {
+            place.copy_from_slice(&row.words());
+        }
+        words
+    }
+
+    /// None where a field cannot hold its word.
+    pub fn from_words(words: &[u64; SP_PEERS_WORDS]) -> Option<PeerTable> {
+        let rows: Option<Vec<Row>> = words[1..]
+            .chunks_exact(ROW_WORDS)
+            .map(Row::from_words)
+            .collect();
+        Some(PeerTable {
+            rows: rows?.try_into().ok()?,
+            count: words[0].try_into().ok()?,
+        })
+    }
+
+    fn returned(words: &[u64; SP_PEERS_WORDS]) -> PeerTable {
+        PeerTable::from_words(words).expect("the library keeps the words in range")
+    }
+
+    fn step(&mut self, call: impl FnOnce(&mut [u64]) -> u32) -> Result<(), Refusal> {
+        let mut words = self.words();
+        split(call(&mut words))?;
+        *self = PeerTable::returned(&words);
+        Ok(())
+    }
+}

@@ -1,0 +1,5 @@
+//! What the tests, samples and benchmarks share.
+
+mod rng;
+
+pub use rng::Rng;
