@@ -34,4 +34,6 @@ xorShift-lt k h b = xor-lt 32 h (h / 2 ^ k) b (omega (arith, shr-le h k))
 
 pub fmix32-bound : Fmix32Bound
 unfolding fmix32
-fmix32-bound h = xorShift-lt 16 (times (xorShift 13 (times (xorShift 16 h) 0x85EB_CA6B)) 0xC2B2_AE35) (mod-lt (xorShift 13 (times (xorShift 16 h) 0x85EB_CA6B) * 0xC2B2_AE35) (lit< tt))
+fmix32-bound h =
+    xorShift-lt 16 (times (xorShift 13 (times (xorShift 16 h) 0x85EB_CA6B)) 0xC2B2_AE35)
+    (mod-lt (xorShift 13 (times (xorShift 16 h) 0x85EB_CA6B) * 0xC2B2_AE35) (lit< tt))

@@ -10,7 +10,8 @@ use lib.Dec.{lit<}
 use lib.ListN.{length, take, drop, take-append-drop, length-drop}
 use lib.Seq.{drop-drop, length-take-le, take-add}
 use Rattle.checksum.specs.Crc32c.{steps, byteStep, run, crc32c}
-use Rattle.checksum.specs.Table.{bytesSteps, crcTable, entryOf, byteStepWith, bytesWith, lanesWith, littleEndian, blockWith, blocksWith, runWith, crcWith, PartWith, ChecksumWith}
+use Rattle.checksum.specs.Table.{bytesSteps, crcTable, entryOf, byteStepWith, bytesWith, lanesWith, littleEndian, blockWith, blocksWith, runWith, crcWith}
+use Rattle.checksum.specs.Table.{PartWith, ChecksumWith}
 use Rattle.wire.specs.Number.{Bytes}
 use Rattle.checksum.specs.Meaning.{RunWithTable, CrcWithTable}
 use Rattle.checksum.proofs.Xor.{xor-assoc}

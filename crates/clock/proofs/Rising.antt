@@ -21,7 +21,8 @@ next-is e = cc
 
 module _ (c b d : Clock) where
   -- a raise from c, or from c with its skew count risen, to phys p at or above P, from a count that is L if p is P
-  raised : (p l : ℕ) → raise b p l ≡ next d → b .node ≡ c .node → c .skew ≤ b .skew → p < 2 ^ 48 → (c .phys < p) ⊎ ((c .phys ≡ p) × (c .logical ≡ l)) → Rises c d
+  raised : (p l : ℕ) → raise b p l ≡ next d → b .node ≡ c .node → c .skew ≤ b .skew → p < 2 ^ 48 → (c .phys < p) ⊎ ((c .phys ≡ p) × (c .logical ≡ l))
+      → Rises c d
   unfolding raise
   raised p l e n s t h = elim (test (leb 65535 l)) [
     | inl q ↦ absurd-step (rw q at e)
@@ -37,7 +38,8 @@ module _ (c b d : Clock) where
         rw f at g
   ]
     where
-      go : (c .phys < p) ⊎ ((c .phys ≡ p) × (c .logical ≡ l)) → (c .phys < p) ⊎ ((c .phys ≡ p) × (c .logical < l + 1)) ⊎ ((c .phys ≡ p) × (c .logical ≡ l + 1) × (c .node < b .node))
+      go : (c .phys < p) ⊎ ((c .phys ≡ p) × (c .logical ≡ l))
+          → (c .phys < p) ⊎ ((c .phys ≡ p) × (c .logical < l + 1)) ⊎ ((c .phys ≡ p) × (c .logical ≡ l + 1) × (c .node < b .node))
       go (inl k) = inl k
       go (inr k) = inr (inl (k .0, omega arith))
 
@@ -98,7 +100,8 @@ receive-rises c d p l now e = elim (test (leb (2 ^ 48) now || leb (2 ^ 48) (c .p
     | inr a ↦
         let t = in-range now (c .phys) b in
         elim (test (ltb (now + 2000) p)) [
-          | inl q ↦ raised c (withSkew c) d (max (c .phys) now) (c .logical) (simp (b, a, q) at e) (skew-node c) (skew-rises c) (omega arith) (later-than (c .phys) now (c .logical))
+          | inl q ↦ raised c (withSkew c) d (max (c .phys) now) (c .logical) (simp (b, a, q) at e) (skew-node c) (skew-rises c) (omega arith)
+              (later-than (c .phys) now (c .logical))
           | inr q ↦ elim (test (ltb (c .phys) p)) [
             | inl r ↦ raised c c d p l (simp (b, a, q, r) at e) refl (omega arith) (leb-false (2 ^ 48) p a) (inl (ltb-true (c .phys) p r))
             | inr r ↦ raised c c d (c .phys) (c .logical) (simp (b, a, q, r) at e) refl (omega arith) (t .1) (inr (refl, refl))

@@ -19,7 +19,9 @@ keys-strictly-ordered = record { irreflexive = bytesBelow-irrefl; transitive = b
 -- two stamps that are equal in phys and logical
 pub stamp-last : (a b : Stamp) → a .phys ≡ b .phys → a .logical ≡ b .logical → ltb (a .node) (b .node) ≡ stampBelow a b
 unfolding stampBelow
-stamp-last a b p l = rw (le-ltb (a .phys) (b .phys) (omega arith), eq-eqb (a .phys) (b .phys) p, le-ltb (a .logical) (b .logical) (omega arith), eq-eqb (a .logical) (b .logical) l)
+stamp-last a b p l =
+    rw
+    (le-ltb (a .phys) (b .phys) (omega arith), eq-eqb (a .phys) (b .phys) p, le-ltb (a .logical) (b .logical) (omega arith), eq-eqb (a .logical) (b .logical) l)
 
 pub stampBelow-weak : (s t u : Stamp) → stampBelow s t ≡ false → stampBelow t u ≡ false → stampBelow s u ≡ false
 unfolding stampBelow lex
@@ -60,7 +62,8 @@ stamp-order-by-field s t = (fields, below)
     inner : Bool
     inner = lex (s .logical) (t .logical) (ltb (s .node) (t .node))
 
-    fields : lex (s .phys) (t .phys) (lex (s .logical) (t .logical) (ltb (s .node) (t .node))) ≡ true → (s .phys < t .phys) ⊎ ((s .phys ≡ t .phys) × (s .logical < t .logical)) ⊎ ((s .phys ≡ t .phys) × (s .logical ≡ t .logical) × (s .node < t .node))
+    fields : lex (s .phys) (t .phys) (lex (s .logical) (t .logical) (ltb (s .node) (t .node))) ≡ true
+        → (s .phys < t .phys) ⊎ ((s .phys ≡ t .phys) × (s .logical < t .logical)) ⊎ ((s .phys ≡ t .phys) × (s .logical ≡ t .logical) × (s .node < t .node))
     fields h = elim (lex-true (s .phys) (t .phys) _ h) [
       | inl p ↦ inl p
       | inr p ↦ elim (lex-true (s .logical) (t .logical) _ (p .1)) [
@@ -69,7 +72,8 @@ stamp-order-by-field s t = (fields, below)
       ]
     ]
 
-    below : (s .phys < t .phys) ⊎ ((s .phys ≡ t .phys) × (s .logical < t .logical)) ⊎ ((s .phys ≡ t .phys) × (s .logical ≡ t .logical) × (s .node < t .node)) → lex (s .phys) (t .phys) (lex (s .logical) (t .logical) (ltb (s .node) (t .node))) ≡ true
+    below : (s .phys < t .phys) ⊎ ((s .phys ≡ t .phys) × (s .logical < t .logical)) ⊎ ((s .phys ≡ t .phys) × (s .logical ≡ t .logical) × (s .node < t .node))
+        → lex (s .phys) (t .phys) (lex (s .logical) (t .logical) (ltb (s .node) (t .node))) ≡ true
     below (inl p) = lex-less _ p
     below (inr (inl p)) = lex-same _ (p .0) ∙ lex-less _ (p .1)
     below (inr (inr p)) = lex-same _ (p .0) ∙ lex-same _ (p .1) ∙ lt-ltb (s .node) (t .node) (p .2)

@@ -95,7 +95,8 @@ on-row-at i f [] = refl
 on-row-at i f (r ∷ rows) = cases (eqb (r .id) i) (λ p. rw p) (λ p. rw (p, on-row-at i f rows))
 
 -- the row of an id changed is the row at its index changed
-pub row-changed : (i k : ℕ) (f : Row → Row) (t : PeerTable) → k ≡ indexOf i (rowsOf t) → k < length (rowsOf t) → rowSet k (f (getD (t .rows) k noRow)) t ≡ withRows (onRow i f) t
+pub row-changed : (i k : ℕ) (f : Row → Row) (t : PeerTable) → k ≡ indexOf i (rowsOf t) → k < length (rowsOf t)
+    → rowSet k (f (getD (t .rows) k noRow)) t ≡ withRows (onRow i f) t
 unfolding withRows
 row-changed i k f t e h =
     let v = f (getD (t .rows) k noRow) in
@@ -174,7 +175,9 @@ tick-sound now t z = not-false _ (passed (not (soundTable t)) 16 0 (passed (leb 
 module _ (i now : ℕ) (t : PeerTable) (z : 0 ≡ addAnswer i now t) where
   pub add-time : now < 2 ^ 48
   unfolding addAnswer
-  add-time = leb-false (2 ^ 48) now (passed (leb (2 ^ 48) now) 8 (cond (not (soundTable t)) 17 (cond (hasRow i (rowsOf t)) 14 (cond (leb 10 (t .count)) 13 0))) z .0)
+  add-time =
+      leb-false (2 ^ 48) now
+      (passed (leb (2 ^ 48) now) 8 (cond (not (soundTable t)) 17 (cond (hasRow i (rowsOf t)) 14 (cond (leb 10 (t .count)) 13 0))) z .0)
 
   after-sound : _≡_ {A = ℕ} 0 (cond (hasRow i (rowsOf t)) 14 (cond (leb 10 (t .count)) 13 0))
   unfolding addAnswer
@@ -233,4 +236,5 @@ pub row-gives : (c : Changed) (t v : PeerTable) (r : Row) (i k m : ℕ) (f : Row
     → Gives c v 0 → v ≡ rowSet k r t → r ≡ f (getD (t .rows) k noRow) → k ≡ indexOf i (rowsOf t) → k < length (rowsOf t) → 0 ≡ m
     → Gives c (unlessRefused m t (withRows (onRow i f) t)) m
 row-gives c t v r i k m f g e d x h z =
-    done-gives c t (withRows (onRow i f) t) m (record { table = g .table ∙ e ∙ ap (λ (q : Row). rowSet k q t) d ∙ row-changed i k f t x h; answer = g .answer }) z
+    let u = g .table ∙ e ∙ ap (λ (q : Row). rowSet k q t) d ∙ row-changed i k f t x h in
+    done-gives c t (withRows (onRow i f) t) m (record { table = u; answer = g .answer }) z

@@ -12,7 +12,8 @@ use Rattle.peers.specs.declared.Row.{Row}
 use Rattle.peers.specs.declared.PeerTable.{PeerTable}
 use Rattle.peers.specs.Row.{newRow, heardRow, reportedRow, tickRow}
 use Rattle.peers.specs.Table.{rowsOf, onRow, onOthers}
-use Rattle.peers.specs.Event.{unlessRefused, withRows, addedTable, addAnswer, afterAdd, heardAnswer, afterHeard, reportedAnswer, afterReported, tickAnswer, afterTick}
+use Rattle.peers.specs.Event.{unlessRefused, withRows, addedTable, addAnswer, afterAdd, heardAnswer, afterHeard, reportedAnswer, afterReported}
+use Rattle.peers.specs.Event.{tickAnswer, afterTick}
 use Rattle.peers.specs.Meaning.{RefusalsKeepTheTable, RowsPastTheLastKept}
 use Rattle.wire.proofs.Tests.{cases}
 
@@ -90,7 +91,10 @@ unfolding afterAdd afterHeard afterReported afterTick withRows
 rows-past-the-last-kept =
     record {
       add = λ i a p n now t. either-way (addAnswer i now t) t (addedTable (newRow i a p n now) t) (PastKept t) refl (λ z. past-added (newRow i a p n now) t);
-      heard = λ i n now t. either-way (heardAnswer i n now t) t (withRows (onRow i (heardRow n now)) t) (PastKept t) refl (λ z. past-changed t (onRow i (heardRow n now)) (length-on-row i (heardRow n now) (rowsOf t)));
-      reported = λ i s n now t. either-way (reportedAnswer i s n now t) t (withRows (onRow i (reportedRow s n now)) t) (PastKept t) refl (λ z. past-changed t (onRow i (reportedRow s n now)) (length-on-row i (reportedRow s n now) (rowsOf t)));
-      tick = λ now t. either-way (tickAnswer now t) t (withRows (onOthers (tickRow now)) t) (PastKept t) refl (λ z. past-changed t (onOthers (tickRow now)) (length-on-others (tickRow now) (rowsOf t)));
+      heard = λ i n now t. either-way (heardAnswer i n now t) t (withRows (onRow i (heardRow n now)) t) (PastKept t) refl
+          (λ z. past-changed t (onRow i (heardRow n now)) (length-on-row i (heardRow n now) (rowsOf t)));
+      reported = λ i s n now t. either-way (reportedAnswer i s n now t) t (withRows (onRow i (reportedRow s n now)) t) (PastKept t) refl
+          (λ z. past-changed t (onRow i (reportedRow s n now)) (length-on-row i (reportedRow s n now) (rowsOf t)));
+      tick = λ now t. either-way (tickAnswer now t) t (withRows (onOthers (tickRow now)) t) (PastKept t) refl
+          (λ z. past-changed t (onOthers (tickRow now)) (length-on-others (tickRow now) (rowsOf t)));
     }

@@ -4,11 +4,7 @@ use native.Mathlib.Nat.{max-eq-left, max-eq-right, le-of-lt}
 use mathlib.Core.Path.{_≡_}
 use borrow.Author.Tests.{lt-ltb, le-ltb, le-leb, lt-leb, eq-eqb, ne-eqb}
 use Rattle.peers.specs.declared.Row.{Row}
-use Rattle.peers.specs.Row.{ageAt, reportedRow, tickState, tickRow}
-
--- a row with other changeable fields
-abbrev pub changed : Row → ℕ → ℕ → ℕ → Row
-changed r s n t = record { id = r .id; address = r .address; port = r .port; state = s; incarnation = n; «last_seen» = t }
+use Rattle.peers.specs.Row.{ageAt, changed, reportedRow, tickState, tickRow}
 
 module _ (r : Row) (s n now : ℕ) where
   pub reported-alive : r .incarnation < n → s ≡ 0 → changed r s n (max (r .«last_seen») now) ≡ reportedRow s n now r

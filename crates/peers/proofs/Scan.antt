@@ -76,7 +76,8 @@ module _ (t : PeerTable) (k : ℕ) where
     unfolding distinct
     distinct-stop l = rw (next-row, found (getD (t .rows) k noRow .id) (drop (k + 1) (rowsOf t)) (omega (arith, length-drop (k + 1) (rowsOf t))))
 
-    pub distinct-next : length (rowsOf t) ≤ k + 1 + indexOf (getD (t .rows) k noRow .id) (drop (k + 1) (rowsOf t)) → distinct (drop k (rowsOf t)) ≡ distinct (drop (k + 1) (rowsOf t))
+    pub distinct-next : length (rowsOf t) ≤ k + 1 + indexOf (getD (t .rows) k noRow .id) (drop (k + 1) (rowsOf t))
+        → distinct (drop k (rowsOf t)) ≡ distinct (drop (k + 1) (rowsOf t))
     unfolding distinct
     distinct-next l = rw (next-row, not-found (getD (t .rows) k noRow .id) (drop (k + 1) (rowsOf t)) (omega (arith, length-drop (k + 1) (rowsOf t))))
 

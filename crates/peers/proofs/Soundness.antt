@@ -13,7 +13,8 @@ use Rattle.peers.specs.declared.Row.{Row}
 use Rattle.peers.specs.declared.PeerTable.{PeerTable}
 use Rattle.peers.specs.Row.{inRange, newRow, heardRow, reportedRow, tickState, tickRow}
 use Rattle.peers.specs.Table.{rowsOf, hasRow, onRow, onOthers, isOwn, distinct, ownAlive, rowsInRange, soundTable}
-use Rattle.peers.specs.Event.{withRows, emptyTable, freshAnswer, freshTable, afterFresh, addedTable, addAnswer, afterAdd, heardAnswer, afterHeard, reportedAnswer, afterReported, tickAnswer, afterTick}
+use Rattle.peers.specs.Event.{withRows, emptyTable, freshAnswer, freshTable, afterFresh, addedTable, addAnswer, afterAdd, heardAnswer, afterHeard}
+use Rattle.peers.specs.Event.{reportedAnswer, afterReported, tickAnswer, afterTick}
 use Rattle.peers.specs.Meaning.{SoundnessKept, AddAppends}
 use Rattle.wire.proofs.Tests.{cases, and-true}
 use Rattle.peers.proofs.Sound.{both, Sound, sound-parts, sound-of}
@@ -110,17 +111,23 @@ module _ (t : PeerTable) (s : Sound t) where
       })
 
   sound-row : (i : ℕ) (f : Row → Row) → KeepsRow f → isOwn i (rowsOf t) ≡ false → soundTable (withRows (onRow i f) t) ≡ true
-  sound-row i f k o = sound-changed (onRow i f) (length-on-row i f (rowsOf t)) (ids-on-row f k i (rowsOf t)) (alive-on-row f k i (rowsOf t) o) (range-on-row f k i (rowsOf t) (s .range))
+  sound-row i f k o =
+      sound-changed (onRow i f)
+      (length-on-row i f (rowsOf t)) (ids-on-row f k i (rowsOf t)) (alive-on-row f k i (rowsOf t) o) (range-on-row f k i (rowsOf t) (s .range))
 
   sound-others : (f : Row → Row) → KeepsRow f → soundTable (withRows (onOthers f) t) ≡ true
-  sound-others f k = sound-changed (onOthers f) (length-on-others f (rowsOf t)) (ids-on-others f k (rowsOf t)) (alive-on-others f k (rowsOf t)) (range-on-others f k (rowsOf t) (s .range))
+  sound-others f k =
+      sound-changed (onOthers f)
+      (length-on-others f (rowsOf t)) (ids-on-others f k (rowsOf t)) (alive-on-others f k (rowsOf t)) (range-on-others f k (rowsOf t) (s .range))
 
 heard-keeps : (n now : ℕ) → now < 2 ^ 48 → KeepsRow (heardRow n now)
 unfolding heardRow inRange
 heard-keeps n now h =
     record {
       id = λ r. refl;
-      range = λ r e. lt-ltb (max (r .«last_seen») now) (2 ^ 48) (omega (arith, ltb-true (r .«last_seen») (2 ^ 48) (and-true (leb (r .state) 2) (ltb (r .«last_seen») (2 ^ 48)) e .1)));
+      range = λ r e.
+          let b : r .«last_seen» < 2 ^ 48 = ltb-true _ _ (and-true (leb (r .state) 2) (ltb (r .«last_seen») (2 ^ 48)) e .1) in
+          lt-ltb (max (r .«last_seen») now) (2 ^ 48) (omega arith);
     }
 
 reported-keeps : (s n now : ℕ) → s ≤ 2 → now < 2 ^ 48 → KeepsRow (reportedRow s n now)
@@ -238,14 +245,16 @@ soundness-kept =
       fresh = λ i a p n now z. rw (if-done (freshAnswer now) emptyTable (freshTable i a p n now) z) (fresh-sound i a p n now (fresh-time now (sym z)));
       add = λ i a p n now t s.
           either-way (addAnswer i now t) t (addedTable (newRow i a p n now) t) (λ (u : PeerTable). soundTable u ≡ true) s (λ z.
-          sound-added t (newRow i a p n now) (sound-parts t s) (add-room i now t (sym z)) (new-in-range i a p n now (add-time i now t (sym z))) (add-unknown i now t (sym z)));
+          sound-added t (newRow i a p n now) (sound-parts t s) (add-room i now t (sym z)) (new-in-range i a p n now (add-time i now t (sym z)))
+          (add-unknown i now t (sym z)));
       heard = λ i n now t s.
           either-way (heardAnswer i n now t) t (withRows (onRow i (heardRow n now)) t) (λ (u : PeerTable). soundTable u ≡ true) s (λ z.
           let y : 0 ≡ reportedAnswer i 0 n now t = sym (heard-is i n now t ∙ z) in
           sound-row t (sound-parts t s) i (heardRow n now) (heard-keeps n now (peer-time i 0 n now t y)) (row-other i n (rowsOf t) (peer-row i 0 n now t y)));
       reported = λ i s n now t u.
           either-way (reportedAnswer i s n now t) t (withRows (onRow i (reportedRow s n now)) t) (λ (v : PeerTable). soundTable v ≡ true) u (λ z.
-          sound-row t (sound-parts t u) i (reportedRow s n now) (reported-keeps s n now (peer-range i s n now t (sym z)) (peer-time i s n now t (sym z))) (row-other i n (rowsOf t) (peer-row i s n now t (sym z))));
+          sound-row t (sound-parts t u) i (reportedRow s n now) (reported-keeps s n now (peer-range i s n now t (sym z)) (peer-time i s n now t (sym z)))
+          (row-other i n (rowsOf t) (peer-row i s n now t (sym z))));
       tick = λ now t s.
           either-way (tickAnswer now t) t (withRows (onOthers (tickRow now)) t) (λ (u : PeerTable). soundTable u ≡ true) s (λ z.
           sound-others t (sound-parts t s) (tickRow now) (tick-keeps now));

@@ -84,7 +84,13 @@ module _ (f : Row → Row) (t : PeerTable) where
         → record { rows = set (u .rows) k (f (getD (u .rows) k noRow)); count = u .count } ≡ tableTo f (k + 1) t
     to-next h u e =
         let l : k < length (othersTo f k (rowsOf t)) = rw (length-others f k (rowsOf t)) h in
-        rw (e, add-one k, List·getD-append (othersTo f k (rowsOf t)) (drop (t .count) (t .rows)) noRow k l, set-append-left (othersTo f k (rowsOf t)) (drop (t .count) (t .rows)) k (f (getD (othersTo f k (rowsOf t)) k noRow)) l, others-step f k (rowsOf t) p)
+        rw (
+          e,
+          add-one k,
+          List·getD-append (othersTo f k (rowsOf t)) (drop (t .count) (t .rows)) noRow k l,
+          set-append-left (othersTo f k (rowsOf t)) (drop (t .count) (t .rows)) k (f (getD (othersTo f k (rowsOf t)) k noRow)) l,
+          others-step f k (rowsOf t) p,
+        )
 
     pub to-end : length (rowsOf t) ≤ k → tableTo f k t ≡ withRows (onOthers f) t
     unfolding withRows
@@ -110,13 +116,15 @@ never-better : (now : ℕ) (r : Row) → inRange r ≡ true → r .state ≤ tic
 unfolding inRange
 never-better now r e = rw (tick-to-the-worse now r (leb-true (r .state) 2 (and-true (leb (r .state) 2) (ltb (r .«last_seen») (2 ^ 48)) e .0))) (omega arith)
 
-map-never-better : (now : ℕ) (rows past : List Row) (k : ℕ) → rowsInRange rows ≡ true → getD (rows ++ past) k noRow .state ≤ getD (map (tickRow now) rows ++ past) k noRow .state
+map-never-better : (now : ℕ) (rows past : List Row) (k : ℕ) → rowsInRange rows ≡ true
+    → getD (rows ++ past) k noRow .state ≤ getD (map (tickRow now) rows ++ past) k noRow .state
 unfolding rowsInRange
 map-never-better now [] past k h = le-refl _
 map-never-better now (r ∷ rows) past zero h = never-better now r (and-true (inRange r) (rowsInRange rows) h .0)
 map-never-better now (r ∷ rows) past (suc k) h = map-never-better now rows past k (and-true (inRange r) (rowsInRange rows) h .1)
 
-others-never-better : (now : ℕ) (rows past : List Row) (k : ℕ) → rowsInRange rows ≡ true → getD (rows ++ past) k noRow .state ≤ getD (onOthers (tickRow now) rows ++ past) k noRow .state
+others-never-better : (now : ℕ) (rows past : List Row) (k : ℕ) → rowsInRange rows ≡ true
+    → getD (rows ++ past) k noRow .state ≤ getD (onOthers (tickRow now) rows ++ past) k noRow .state
 unfolding onOthers rowsInRange
 others-never-better now [] past k h = le-refl _
 others-never-better now (own ∷ rows) past zero h = le-refl _
@@ -126,7 +134,8 @@ pub tick-never-improves : TickNeverImproves
 unfolding afterTick withRows
 tick-never-improves now k t =
     either-way (tickAnswer now t) t (withRows (onOthers (tickRow now)) t) (λ (u : PeerTable). rowAt k t .state ≤ rowAt k u .state) (le-refl _) (λ z.
-    rw (take-append-drop (t .count) (t .rows)) at (others-never-better now (rowsOf t) (drop (t .count) (t .rows)) k (sound-parts t (tick-sound now t (sym z)) .range)))
+    let s = sound-parts t (tick-sound now t (sym z)) in
+    rw (take-append-drop (t .count) (t .rows)) at (others-never-better now (rowsOf t) (drop (t .count) (t .rows)) k (s .range)))
 
 -- ---- row by row
 others-own : (f : Row → Row) (rows past : List Row) → getD (onOthers f rows ++ past) 0 noRow ≡ getD (rows ++ past) 0 noRow

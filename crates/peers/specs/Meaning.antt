@@ -12,7 +12,8 @@ use Rattle.peers.specs.declared.Admission.the-variants.{Home, Standing}
 use Rattle.peers.specs.Row.{ageAt, newRow, tickRow}
 use Rattle.peers.specs.Table.{rowsOf, hasRow, heldState, soundTable}
 use Rattle.peers.specs.Admitted.{admits, admittedFlags}
-use Rattle.peers.specs.Event.{noRow, freshAnswer, afterFresh, addAnswer, afterAdd, heardAnswer, afterHeard, reportedAnswer, afterReported, tickAnswer, afterTick}
+use Rattle.peers.specs.Event.{noRow, freshAnswer, afterFresh, addAnswer, afterAdd, heardAnswer, afterHeard}
+use Rattle.peers.specs.Event.{reportedAnswer, afterReported, tickAnswer, afterTick}
 
 -- ---- soundness
 abbrev pub KeepsSound : (PeerTable → PeerTable) → Type 0

@@ -16,17 +16,20 @@ inRange r = leb (r .state) 2 && ltb (r .«last_seen») (2 ^ 48)
 abbrev pub newRow : ℕ → ℕ → ℕ → ℕ → ℕ → Row
 newRow i a p n now = record { id = i; address = a; port = p; state = 0; incarnation = n; «last_seen» = now }
 
+-- a row with another state, incarnation and last seen
+abbrev pub changed : Row → ℕ → ℕ → ℕ → Row
+changed r s n seen = record { id = r .id; address = r .address; port = r .port; state = s; incarnation = n; «last_seen» = seen }
+
 -- heard directly: ALIVE with that incarnation, last seen the later of itself and now
 unfoldable pub heardRow : ℕ → ℕ → Row → Row
-heardRow n now r = record { id = r .id; address = r .address; port = r .port; state = 0; incarnation = n; «last_seen» = max (r .«last_seen») now }
+heardRow n now r = changed r 0 n (max (r .«last_seen») now)
 
 -- reported: a higher incarnation is taken with its state, and if that is ALIVE, last seen is the later of itself and now;
 -- equal: the worse state stays
 unfoldable pub reportedRow : ℕ → ℕ → ℕ → Row → Row
 reportedRow s n now r =
-    cond (ltb (r .incarnation) n)
-    (record { id = r .id; address = r .address; port = r .port; state = s; incarnation = n; «last_seen» = cond (eqb s 0) (max (r .«last_seen») now) (r .«last_seen») })
-    (record { id = r .id; address = r .address; port = r .port; state = max (r .state) s; incarnation = r .incarnation; «last_seen» = r .«last_seen» })
+    cond (ltb (r .incarnation) n) (changed r s n (cond (eqb s 0) (max (r .«last_seen») now) (r .«last_seen»)))
+    (changed r (max (r .state) s) (r .incarnation) (r .«last_seen»))
 
 -- age 15,000 or more gives DOWN; 5,000 or more makes ALIVE SUSPECT
 unfoldable pub tickState : ℕ → ℕ → ℕ
@@ -36,4 +39,4 @@ tickState age s =
     s)
 
 unfoldable pub tickRow : ℕ → Row → Row
-tickRow now r = record { id = r .id; address = r .address; port = r .port; state = tickState (ageAt (r .«last_seen») now) (r .state); incarnation = r .incarnation; «last_seen» = r .«last_seen» }
+tickRow now r = changed r (tickState (ageAt (r .«last_seen») now) (r .state)) (r .incarnation) (r .«last_seen»)

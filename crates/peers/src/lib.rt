@@ -9,7 +9,8 @@ ghost use Rattle.entry.specs.Refusal.{number};
 ghost use Rattle.peers.specs.Row.{ageAt, inRange, newRow, heardRow, reportedRow, tickRow};
 ghost use Rattle.peers.specs.Table.{rowsOf, indexOf, soundTable, rowsInRange, distinct, onOthers};
 ghost use Rattle.peers.specs.Admitted.{admitsRow, admittedFlags};
-ghost use Rattle.peers.specs.Event.{Gives, answerNumber, freshAnswer, afterFresh, addAnswer, afterAdd, heardAnswer, afterHeard, reportedAnswer, afterReported, tickAnswer, afterTick, withRows, rowSet};
+ghost use Rattle.peers.specs.Event.{Gives, answerNumber, withRows, rowSet, freshAnswer, afterFresh, addAnswer, afterAdd};
+ghost use Rattle.peers.specs.Event.{heardAnswer, afterHeard, reportedAnswer, afterReported, tickAnswer, afterTick};
 
 // What is thought of a peer.
 pub const ALIVE: u8 = 0;

@@ -19,7 +19,8 @@ use Rattle.ring.specs.Build.{nodePlaces, places, ringOf, badArguments, b
 use Rattle.ring.specs.Sound.{inRange, soundRing}
 use Rattle.ring.specs.Meaning.{PlaceParts, PlaceOrder, BuiltRing, BuildsRing}
 use Rattle.ring.proofs.Answers.{given, not-given}
-use Rattle.ring.proofs.Elements.{not-in-nil, elem-head, elem-tail, elem-append, elem-map, elem-map-of, elem-sorted, distinct-cons, distinct-head, distinct-tail, distinct-sorted, distinct-append}
+use Rattle.ring.proofs.Elements.{not-in-nil, elem-head, elem-tail, elem-append, elem-map, elem-map-of, elem-sorted, distinct-cons, distinct-head}
+use Rattle.ring.proofs.Elements.{distinct-tail, distinct-sorted, distinct-append}
 use Rattle.ring.proofs.Sorting.{sorted-ascending}
 use Rattle.ring.proofs.Filling.{length-ring, arguments-fit, fit-640}
 
@@ -33,9 +34,9 @@ place-order t n i t′ n′ i′ hn hi hn′ hi′ = (parts, number)
     parts : placeNumber t n i < placeNumber t′ n′ i′ → (t < t′) ⊎ ((t ≡ t′) × (n < n′)) ⊎ ((t ≡ t′) × (n ≡ n′) × (i < i′))
     parts h =
         cases (ltb t t′) (λ e. inl (ltb-true t t′ e))
-        (λ e. cases (ltb n n′)
-        (λ f. inr (inl (omega (arith, ltb-false t t′ e), ltb-true n n′ f)))
-        (λ f. inr (inr (omega (arith, ltb-false t t′ e), omega (arith, ltb-false t t′ e, ltb-false n n′ f), omega (arith, ltb-false t t′ e, ltb-false n n′ f)))))
+        (λ e. let p : t′ ≤ t = ltb-false t t′ e in cases (ltb n n′)
+        (λ f. inr (inl (omega arith, ltb-true n n′ f)))
+        (λ f. let q : n′ ≤ n = ltb-false n n′ f in inr (inr (omega arith, omega arith, omega arith))))
 
     number : (t < t′) ⊎ ((t ≡ t′) × (n < n′)) ⊎ ((t ≡ t′) × (n ≡ n′) × (i < i′)) → placeNumber t n i < placeNumber t′ n′ i′
     number (inl p) = omega arith
@@ -155,7 +156,8 @@ module _ (ids : List ℕ) (v s : ℕ) (b : Bytes ids) (fit : badArguments ids v 
       let f = arguments-fit ids v fit in
       let r = only-ring p e in
       let hn = byte ids b (r .0) (r .2) in
-      (rw (r .4) (place-bound (r .0) (r .1) s hn (omega (arith, r .3, f .most))), rw (r .4, place-vnode (r .0) (r .1) s hn (omega (arith, r .3, f .most))) (omega (arith, r .3, f .most)))
+      let hi : r .1 < 64 = omega (arith, r .3, f .most) in
+      (rw (r .4) (place-bound (r .0) (r .1) s hn (omega arith)), rw (r .4, place-vnode (r .0) (r .1) s hn (omega arith)) hi)
 
   ring-distinct : distinct (ringOf ids v s) ≡ true
   unfolding ringOf

@@ -28,7 +28,7 @@ count-more n (suc m) f h e =
     cases (eqb n m)
     (λ q. let z : f m ≡ false = ap f (sym (eqb-true n m q)) ∙ e in
     rw (q, z) (ap suc (countBelow-ext (λ k. eqb n k || f k) f m (λ k l. rw (ne-eqb n k (λ p. omega (arith, eqb-true n m q)))))))
-    (λ q. let l : n < m = omega (arith, eqb-false n m q) in cases (f m) (λ z. rw (q, z) (ap suc (count-more n m f l e))) (λ z. rw (q, z) (count-more n m f l e)))
+    (λ q. let r = count-more n m f (omega (arith, eqb-false n m q)) e in cases (f m) (λ z. rw (q, z) (ap suc r)) (λ z. rw (q, z) r))
 
 pub length-distinct : (t : List ℕ) (m : ℕ) → distinct t ≡ true → ((k : ℕ) → elem k t ≡ true → k < m) → length t ≡ countBelow (λ k. elem k t) m
 unfolding elem

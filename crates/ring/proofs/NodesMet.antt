@@ -15,7 +15,8 @@ use Rattle.ring.specs.Place.{node}
 use Rattle.ring.specs.Walk.{before, from, around, nodesAround, met, ownersOf, admittedWithPlace}
 use Rattle.ring.specs.Meaning.{OwnerList}
 use Rattle.ring.proofs.Filter.{firsts-filter}
-use Rattle.ring.proofs.Elements.{not-in-nil, elem-append, elem-filter, elem-firsts, elem-at, elem-take, elem-drop, elem-rest, distinct-firsts, distinct-take}
+use Rattle.ring.proofs.Elements.{not-in-nil, elem-append, elem-filter, elem-firsts, elem-at, elem-take, elem-drop, elem-rest, distinct-firsts}
+use Rattle.ring.proofs.Elements.{distinct-take}
 use Rattle.ring.proofs.Counting.{countBelow-ext, length-distinct}
 use Rattle.ring.proofs.Meeting.{before-take, from-drop}
 
@@ -93,8 +94,10 @@ unfolding InOrder firsts firstAt
 order-firsts [] = tt
 order-firsts (n ∷ l) =
     let f : ℕ → Bool = λ m. not (eqb n m) in
-    let h : elem n (filter f (firsts l)) ≡ false = elem-filter f n (firsts l) ∙ rw (eq-eqb n n refl) in
-    (λ m i. rw (eq-eqb n n refl, not-true (eqb n m) (and-true (f m) (elem m (firsts l)) (sym (elem-filter f m (firsts l)) ∙ i) .0)) (omega arith), order-cons n l (filter f (firsts l)) h (order-filter l f (firsts l) (order-firsts l)))
+    let h : elem n (filter f (firsts l)) ≡ false = elem-filter f n (firsts l) ∙ rw (eq-eqb n n refl) in (
+      λ m i. rw (eq-eqb n n refl, not-true (eqb n m) (and-true (f m) (elem m (firsts l)) (sym (elem-filter f m (firsts l)) ∙ i) .0)) (omega arith),
+      order-cons n l (filter f (firsts l)) h (order-filter l f (firsts l) (order-firsts l)),
+    )
 
 order-met : (f : ℕ → Bool) (x : ℕ) (ring : List ℕ) → InOrder (nodesAround x ring) (met f x ring)
 unfolding met

@@ -5,7 +5,8 @@ use mathlib.Core.List.{List, [], _∷_, _++_, append-nil}
 use native.Mathlib.Omega.{arith}
 use native.Mathlib.Nat.{not-suc-le-zero, le-of-suc-le-suc}
 use native.Mathlib.Numerals.{add-one}
-use lib.ListN.{length, take, drop, getD, set, replicate, length-append, length-take, length-drop, length-replicate, getD-replicate, drop-of-length-le, replicate-append-replicate}
+use lib.ListN.{length, take, drop, getD, set, replicate, length-append, length-take, length-drop, length-replicate, getD-replicate, drop-of-length-le}
+use lib.ListN.{replicate-append-replicate}
 use lib.Seq.{take-at, drop-append-add, drop-cons, take-suc, append-snoc, set-at, length-take-le, take-all, take-append-seam}
 use Rattle.wire.specs.Number.{be}
 use Rattle.wire.specs.Fill.{zeros, padded, field}

@@ -16,7 +16,8 @@ pub written-none : (s : List ℕ) → Written 0 [] s s
 written-none s = record { is = refl; long = refl }
 
 -- the next k bytes are filled with f k
-pub write-next : (f : ℕ → List ℕ) (a k : ℕ) (p s₀ s ys : List ℕ) → length (f k) ≡ k → a + k ≤ length s₀ → Written a p s₀ s → ys ≡ f (length (midOf a k s)) → Written (a + k) (p ++ f k) s₀ (putMid a k s ys)
+pub write-next : (f : ℕ → List ℕ) (a k : ℕ) (p s₀ s ys : List ℕ) → length (f k) ≡ k → a + k ≤ length s₀ → Written a p s₀ s → ys ≡ f (length (midOf a k s))
+    → Written (a + k) (p ++ f k) s₀ (putMid a k s ys)
 write-next f a k p s₀ s ys fk le w e =
     let d : drop a s ≡ drop a s₀ = ap (drop a) (w .is) ∙ drop-at p (drop a s₀) a (w .long) in
     let t : take a s ≡ p = ap (take a) (w .is) ∙ take-at p (drop a s₀) a (w .long) in

@@ -53,12 +53,14 @@ sum-zero a b = elim (test (eqb a 0)) [
 ]
 
 -- a block of 64 of what is left, and what is left after it
-pub zero-step : (i : ℕ) (s : List ℕ) (b : Bool) → i + 64 ≤ length s → b ≡ allZero (take (i + 64 - i) (drop i s)) → allZero (drop i s) ≡ (b && allZero (drop (i + 64) s))
+pub zero-step : (i : ℕ) (s : List ℕ) (b : Bool) → i + 64 ≤ length s → b ≡ allZero (take (i + 64 - i) (drop i s))
+    → allZero (drop i s) ≡ (b && allZero (drop (i + 64) s))
 zero-step i s b h e =
     let w : i + 64 - i ≡ 64 = omega arith in
     let k : 64 ≤ length (drop i s) = omega (arith, length-drop i s) in
     let n : length (take 64 (drop i s)) ≡ 64 = length-take-le 64 (drop i s) k in
-    let f : b ≡ sameBytes (take 64 (drop i s)) (zeros 64) = e ∙ ap (λ (m : ℕ). allZero (take m (drop i s))) w ∙ ap (λ (m : ℕ). sameBytes (take 64 (drop i s)) (zeros m)) n in
+    let f : b ≡ sameBytes (take 64 (drop i s)) (zeros 64) = e ∙ ap (λ (m : ℕ). allZero (take m (drop i s))) w
+    ∙ ap (λ (m : ℕ). sameBytes (take 64 (drop i s)) (zeros m)) n in
     zero-split 64 (drop i s) k ∙ ap₂ (λ (x : Bool) (t : List ℕ). x && allZero t) (sym f) (drop-drop 64 i s)
 
 -- the last block

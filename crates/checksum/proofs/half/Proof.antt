@@ -47,11 +47,16 @@ add-result-3 : tie.Need-add-result-3
 add-result-3 c = search needs
 
 returns : tie.Need-returns
-returns c = (
-  rw (c .wide4 .ensures .0, c .before .before .wide3 .ensures .0, c .before .before .before .before .wide2 .ensures .0, c .before .before .before .before .before .before .wide .ensures .0)
-      (four-bytes (c .before .before .before .before .before .before .before .before .before .args .s .now) (c .before .before .before .before .before .before .before .before .before .pre)),
-  omega arith,
-)
+returns c =
+    let p2 = c .before .before in
+    let p4 = p2 .before .before in
+    let p6 = p4 .before .before in
+    let p9 = p6 .before .before .before in
+    let a = p9 .args in (
+      rw (c .wide4 .ensures .0, p2 .wide3 .ensures .0, p4 .wide2 .ensures .0, p6 .wide .ensures .0)
+          (four-bytes (a .s .now) (p9 .pre)),
+      omega arith,
+    )
 
 pub half-spec : {M : Type 1} → statement M
 half-spec =

@@ -50,8 +50,25 @@ lane-requires-7 c κs = search needs
 
 returns : tie.Need-returns
 returns c =
-    rw (c .lane7 .ensures, c .before .lane6 .ensures, c .before .before .lane5 .ensures, c .before .before .before .lane4 .ensures, c .before .before .before .before .lane3 .ensures, c .before .before .before .before .before .lane2 .ensures, c .before .before .before .before .before .before .lane .ensures, c .before .before .before .before .before .before .before .entry .ensures)
-    (eight-lanes (c .before .before .before .before .before .before .before .before .args .t .now) (c .before .before .before .before .before .before .before .before .args .base) (c .before .before .before .before .before .before .before .before .args .v))
+    let p1 = c .before in
+    let p2 = p1 .before in
+    let p3 = p2 .before in
+    let p4 = p3 .before in
+    let p5 = p4 .before in
+    let p6 = p5 .before in
+    let p7 = p6 .before in
+    let a = p7 .before .args in
+    rw (
+      c .lane7 .ensures,
+      p1 .lane6 .ensures,
+      p2 .lane5 .ensures,
+      p3 .lane4 .ensures,
+      p4 .lane3 .ensures,
+      p5 .lane2 .ensures,
+      p6 .lane .ensures,
+      p7 .entry .ensures,
+    )
+    (eight-lanes (a .t .now) (a .base) (a .v))
 
 pub lanes-spec : {M : Type 1} → statement M
 lanes-spec =

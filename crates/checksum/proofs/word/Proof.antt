@@ -26,7 +26,11 @@ add-result : tie.Need-add-result
 add-result c = search needs
 
 returns : tie.Need-returns
-returns c = rw (c .half2 .ensures .0, c .before .before .half .ensures .0, rest) (eight-bytes (c .before .before .before .before .args .s .now) (c .before .before .before .before .pre))
+returns c =
+    let p2 = c .before .before in
+    let p4 = p2 .before .before in
+    let a = p4 .args in
+    rw (c .half2 .ensures .0, p2 .half .ensures .0, rest) (eight-bytes (a .s .now) (p4 .pre))
 
 pub word-spec : {M : Type 1} → statement M
 word-spec =

@@ -15,7 +15,11 @@ is-reserved-requires : tie.Need-is-reserved-requires
 is-reserved-requires c κs = search needs
 
 returns-3 : tie.Need-returns-3
-returns-3 c = ap not (c .is-reserved .ensures ∙ sym (key-else (c .before .before .before .before .args .key .now) (c .before .before .if1 .left) (c .before .if2 .left)))
+returns-3 c =
+    let p1 = c .before in
+    let p2 = p1 .before in
+    let a = p2 .before .before .args in
+    ap not (c .is-reserved .ensures ∙ sym (key-else (a .key .now) (p2 .if1 .left) (p1 .if2 .left)))
 
 pub is-acceptable-key-spec : {M : Type 1} → statement M
 is-acceptable-key-spec = tie.close (tie.spec returns returns-2 is-reserved-requires returns-3)

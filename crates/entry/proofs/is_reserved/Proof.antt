@@ -22,7 +22,11 @@ starts-with-requires-2 c κs = search needs
 
 returns-2 : tie.Need-returns-2
 unfolding reserved
-returns-2 c = rw (sym (c .before .before .before .before .starts-with .ensures) ∙ c .before .before .before .if1 .left, sym (c .before .starts-with2 .ensures) ∙ c .if2 .taken)
+returns-2 c =
+    let p1 = c .before in
+    let p3 = p1 .before .before in
+    let p4 = p3 .before in
+    rw (sym (p4 .starts-with .ensures) ∙ p3 .if1 .left, sym (p1 .starts-with2 .ensures) ∙ c .if2 .taken)
 
 slice-aggregate-starts-with-3 : tie.Need-slice-aggregate-starts-with-3
 slice-aggregate-starts-with-3 c = search needs
@@ -32,7 +36,13 @@ starts-with-requires-3 c κs = search needs
 
 returns-3 : tie.Need-returns-3
 unfolding reserved
-returns-3 c = rw (sym (c .before .before .before .before .before .before .before .starts-with .ensures) ∙ c .before .before .before .before .before .before .if1 .left, sym (c .before .before .before .before .starts-with2 .ensures) ∙ c .before .before .before .if2 .left, sym (c .before .starts-with3 .ensures) ∙ c .if3 .taken)
+returns-3 c =
+    let p1 = c .before in
+    let p3 = p1 .before .before in
+    let p4 = p3 .before in
+    let p6 = p4 .before .before in
+    let p7 = p6 .before in
+    rw (sym (p7 .starts-with .ensures) ∙ p6 .if1 .left, sym (p4 .starts-with2 .ensures) ∙ p3 .if2 .left, sym (p1 .starts-with3 .ensures) ∙ c .if3 .taken)
 
 slice-aggregate-starts-with-4 : tie.Need-slice-aggregate-starts-with-4
 slice-aggregate-starts-with-4 c = search needs
@@ -42,7 +52,15 @@ starts-with-requires-4 c κs = search needs
 
 returns-4 : tie.Need-returns-4
 unfolding reserved
-returns-4 c = rw (sym (c .before .before .before .before .before .before .before .before .before .starts-with .ensures) ∙ c .before .before .before .before .before .before .before .before .if1 .left, sym (c .before .before .before .before .before .before .starts-with2 .ensures) ∙ c .before .before .before .before .before .if2 .left, sym (c .before .before .before .starts-with3 .ensures) ∙ c .before .before .if3 .left) (c .starts-with4 .ensures)
+returns-4 c =
+    let p2 = c .before .before in
+    let p3 = p2 .before in
+    let p5 = p3 .before .before in
+    let p6 = p5 .before in
+    let p8 = p6 .before .before in
+    let p9 = p8 .before in
+    rw (sym (p9 .starts-with .ensures) ∙ p8 .if1 .left, sym (p6 .starts-with2 .ensures) ∙ p5 .if2 .left, sym (p3 .starts-with3 .ensures) ∙ p2 .if3 .left)
+    (c .starts-with4 .ensures)
 
 pub is-reserved-spec : {M : Type 1} → statement M
 is-reserved-spec =

@@ -32,7 +32,11 @@ same-length : tie.Need-same-length
 same-length c = search needs
 
 returns-3 : tie.Need-returns-3
-returns-3 c = is-built _ _ _ (fit (c .before .before .before .before .before)) _ _ (c .before .before .before .before .if2 .left) (c .before .before .fill .ensures)
+returns-3 c =
+    let p2 = c .before .before in
+    let p4 = p2 .before .before in
+    let p5 = p4 .before in
+    is-built _ _ _ (fit p5) _ _ (p4 .if2 .left) (p2 .fill .ensures)
 
 pub build-spec : {M : Type 1} → statement M
 build-spec =

@@ -23,8 +23,15 @@ sound : (c : tie.Else2) → soundRing (c .before .before .before .before .before
 sound c = sym (c .before .is-sound .ensures) ∙ not-false _ (c .if2 .left)
 
 -- how many nodes the walk took
-counted : (c : tie.After-walk) → c .walk .result .count ≡ min (c .before .before .before .before .before .before .before .before .before .args .count) (admittedWithPlace (admits (c .before .before .before .before .before .before .before .before .before .args .admission) (c .before .before .before .before .before .before .before .before .before .args .peers)) (c .before .before .before .before .before .before .before .before .before .args .ring .now))
-counted c = count-met _ _ _ (c .before .before .admitted .ensures) _ (c .before .before .before .before .before .before .before .before .before .args .position) _ _ _ _ (c .before .start .ensures) (c .walk .ensures) (at-most-3 _ _ (fit (c .before .before .before .before .before)))
+counted : (c : tie.After-walk)
+    → let a = c .before .before .before .before .before .before .before .before .before .args in
+    c .walk .result .count ≡ min (a .count) (admittedWithPlace (admits (a .admission) (a .peers)) (a .ring .now))
+counted c =
+    let p1 = c .before in
+    let p2 = p1 .before in
+    let p5 = p2 .before .before .before in
+    let a = p5 .before .before .before .before .args in
+    count-met _ _ _ (p2 .admitted .ensures) _ (a .position) _ _ _ _ (p1 .start .ensures) (c .walk .ensures) (at-most-3 _ _ (fit p5))
 
 bad-request-requires : tie.Need-bad-request-requires
 bad-request-requires c κs = search needs
@@ -47,17 +54,26 @@ start-requires : tie.Need-start-requires
 start-requires c κs = search needs
 
 walk-requires : tie.Need-walk-requires
-walk-requires c κs = (rw (c .start .ensures) (before-le (c .before .before .before .before .before .before .before .before .args .position) (c .before .before .before .before .before .before .before .before .args .ring .now)), at-most-3 _ _ (fit (c .before .before .before .before)))
+walk-requires c κs =
+    let p4 = c .before .before .before .before in
+    let a = p4 .before .before .before .before .args in
+    (rw (c .start .ensures) (before-le (a .position) (a .ring .now)), at-most-3 _ _ (fit p4))
 
 returns-3 : tie.Need-returns-3
 returns-3 c =
+    let p1 = c .before in
+    let p4 = p1 .before .before .before in
+    let p6 = p4 .before .before in
     says _ _ _ _ _ _ (refuses 10)
-    (too-few _ _ _ _ _ (fit (c .before .before .before .before .before .before)) (sound (c .before .before .before .before)) (omega (arith, counted (c .before))))
+    (too-few _ _ _ _ _ (fit p6) (sound p4) (omega (arith, counted p1)))
 
 returns-4 : tie.Need-returns-4
 returns-4 c =
+    let p2 = c .before .before in
+    let p5 = p2 .before .before .before in
+    let p7 = p5 .before .before in
     says _ _ _ _ _ _ (refuses 4)
-    (no-room _ _ _ _ _ (fit (c .before .before .before .before .before .before .before)) (sound (c .before .before .before .before .before)) (omega (arith, counted (c .before .before))) (c .if4 .taken))
+    (no-room _ _ _ _ _ (fit p7) (sound p5) (omega (arith, counted p2)) (c .if4 .taken))
 
 put-requires : tie.Need-put-requires
 put-requires c κs =
@@ -70,9 +86,17 @@ same-length c = search needs
 
 returns-5 : tie.Need-returns-5
 returns-5 c =
-    all-written _ _ _ _ _ (fit (c .before .before .before .before .before .before .before .before .before .before .before)) (sound (c .before .before .before .before .before .before .before .before .before)) (omega (arith, counted (c .before .before .before .before .before .before))) _ _ (c .before .before .before .before .if4 .left)
-    (c .before .before .put .ensures
-    ∙ put-owners _ _ _ (c .before .before .before .before .before .before .before .before .admitted .ensures) _ (c .before .before .before .before .before .before .before .before .before .before .before .before .before .before .before .args .position) _ _ _ _ (c .before .before .before .before .before .before .before .start .ensures) (c .before .before .before .before .before .before .walk .ensures) (at-most-3 _ _ (fit (c .before .before .before .before .before .before .before .before .before .before .before))) (c .before .before .before .before .before .before .before .before .before .before .before .before .before .before .before .args .out .now))
+    let p2 = c .before .before in
+    let p4 = p2 .before .before in
+    let p6 = p4 .before .before in
+    let p7 = p6 .before in
+    let p8 = p7 .before in
+    let p9 = p8 .before in
+    let p11 = p9 .before .before in
+    let a = p11 .before .before .before .before .args in
+    all-written _ _ _ _ _ (fit p11) (sound p9) (omega (arith, counted p6)) _ _ (p4 .if4 .left)
+    (p2 .put .ensures
+    ∙ put-owners _ _ _ (p8 .admitted .ensures) _ (a .position) _ _ _ _ (p7 .start .ensures) (p6 .walk .ensures) (at-most-3 _ _ (fit p11)) (a .out .now))
 
 pub owners-spec : {M : Type 1} → statement M
 owners-spec =

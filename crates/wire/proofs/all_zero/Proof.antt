@@ -34,16 +34,32 @@ part-block-is-zero-end : tie.Need-part-block-is-zero-end Inv-loop μ-loop
 part-block-is-zero-end c = search needs
 
 block-is-zero-requires : tie.Need-block-is-zero-requires Inv-loop μ-loop
-block-is-zero-requires c κs = omega (arith, length-take (c .before .before .loop .i + 64 - c .before .before .loop .i) (drop (c .before .before .loop .i) (c .before .before .before .before .args .s .now)))
+block-is-zero-requires c κs =
+    let l = c .before .before .loop in
+    let a = c .before .before .before .before .args in
+    omega (arith, length-take (l .i + 64 - l .i) (drop (l .i) (a .s .now)))
 
 returns : tie.Need-returns Inv-loop μ-loop
-returns c = sym (sym (c .before .before .before .before .loop .inv .0) ∙ zero-step (c .before .before .before .before .loop .i) (c .before .before .before .before .before .before .args .s .now) (c .before .block-is-zero .result) (omega arith) (c .before .block-is-zero .ensures) ∙ ap (λ (b : Bool). b && allZero (drop (c .before .before .before .before .loop .i + 64) (c .before .before .before .before .before .before .args .s .now))) (not-true (c .before .block-is-zero .result) (c .if1 .taken)))
+returns c =
+    let p1 = c .before in
+    let l = p1 .before .before .before .loop in
+    let a = p1 .before .before .before .before .before .args in
+    sym
+    (sym (l .inv .0) ∙ zero-step (l .i) (a .s .now) (p1 .block-is-zero .result) (omega arith) (p1 .block-is-zero .ensures)
+    ∙ ap (λ (b : Bool). b && allZero (drop (l .i + 64) (a .s .now))) (not-true (p1 .block-is-zero .result) (c .if1 .taken)))
 
 loop-less : tie.Need-loop-less Inv-loop μ-loop
 loop-less c = search needs
 
 loop-again : tie.Need-loop-again Inv-loop μ-loop
-loop-again c = (sym (zero-step (c .before .before .before .before .loop .i) (c .before .before .before .before .before .before .args .s .now) (c .before .block-is-zero .result) (omega arith) (c .before .block-is-zero .ensures) ∙ ap (λ (b : Bool). b && allZero (drop (c .before .before .before .before .loop .i + 64) (c .before .before .before .before .before .before .args .s .now))) (not-false (c .before .block-is-zero .result) (c .if1 .left))) ∙ c .before .before .before .before .loop .inv .0, omega arith)
+loop-again c =
+    let p1 = c .before in
+    let l = p1 .before .before .before .loop in
+    let a = p1 .before .before .before .before .before .args in (
+      sym (zero-step (l .i) (a .s .now) (p1 .block-is-zero .result) (omega arith) (p1 .block-is-zero .ensures)
+          ∙ ap (λ (b : Bool). b && allZero (drop (l .i + 64) (a .s .now))) (not-false (p1 .block-is-zero .result) (c .if1 .left))) ∙ l .inv .0,
+      omega arith,
+    )
 
 sub-block-is-zero-2 : tie.Need-sub-block-is-zero-2 Inv-loop μ-loop
 sub-block-is-zero-2 c = search needs
@@ -55,10 +71,16 @@ part-block-is-zero-end-2 : tie.Need-part-block-is-zero-end-2 Inv-loop μ-loop
 part-block-is-zero-end-2 c = search needs
 
 block-is-zero-requires-2 : tie.Need-block-is-zero-requires-2 Inv-loop μ-loop
-block-is-zero-requires-2 c κs = omega (arith, length-take (length (c .before .before .before .before .args .s .now) - c .before .before .loop .i) (drop (c .before .before .loop .i) (c .before .before .before .before .args .s .now)))
+block-is-zero-requires-2 c κs =
+    let l = c .before .before .loop in
+    let a = c .before .before .before .before .args in
+    omega (arith, length-take (length (a .s .now) - l .i) (drop (l .i) (a .s .now)))
 
 returns-2 : tie.Need-returns-2 Inv-loop μ-loop
-returns-2 c = c .block-is-zero2 .ensures ∙ zero-rest (c .before .before .before .loop .i) (c .before .before .before .before .before .args .s .now) ∙ c .before .before .before .loop .inv .0
+returns-2 c =
+    let l = c .before .before .before .loop in
+    let a = c .before .before .before .before .before .args in
+    c .block-is-zero2 .ensures ∙ zero-rest (l .i) (a .s .now) ∙ l .inv .0
 
 pub all-zero-spec : {M : Type 1} → statement M
 all-zero-spec =

@@ -41,8 +41,12 @@ loop-less c = search needs
 loop-again : tie.Need-loop-again Inv-loop μ-loop
 loop-again c =
     let l = c .before .before .loop in
-    let s = c .before .before .before .args .s .now in
-    (sum-zero (l .sum) (getD s (l .i) 0) ∙ ap (λ (b : Bool). b && eqb (getD s (l .i) 0) 0) (l .inv .0) ∙ sym (zero-next (l .i) s (omega arith)), omega (arith, c .shared-slice-known .given (l .i)), omega arith)
+    let s = c .before .before .before .args .s .now in (
+      sum-zero (l .sum) (getD s (l .i) 0) ∙ ap (λ (b : Bool). b && eqb (getD s (l .i) 0) 0) (l .inv .0)
+          ∙ sym (zero-next (l .i) s (omega arith)),
+      omega (arith, c .shared-slice-known .given (l .i)),
+      omega arith,
+    )
 
 returns : tie.Need-returns Inv-loop μ-loop
 returns c =

@@ -19,7 +19,10 @@ loop-holds : tie.Need-loop-holds Inv-loop μ-loop
 loop-holds c = search needs
 
 returns : tie.Need-returns Inv-loop μ-loop
-returns c = let l = c .before .before .loop in let a = c .before .before .before .args in sym (compare-past-b (a .a .now) (a .b .now) (l .i) (omega arith) (omega arith)) ∙ l .inv .0
+returns c =
+    let l = c .before .before .loop in
+    let a = c .before .before .before .args in
+    sym (compare-past-b (a .a .now) (a .b .now) (l .i) (omega arith) (omega arith)) ∙ l .inv .0
 
 shared-slice-read-x : tie.Need-shared-slice-read-x Inv-loop μ-loop
 shared-slice-read-x c = search needs
@@ -28,10 +31,16 @@ shared-slice-read-y : tie.Need-shared-slice-read-y Inv-loop μ-loop
 shared-slice-read-y c = search needs
 
 returns-2 : tie.Need-returns-2 Inv-loop μ-loop
-returns-2 c = let l = c .before .before .before .before .before .loop in let a = c .before .before .before .before .before .before .args in sym (compare-lt (a .a .now) (a .b .now) (l .i) (omega arith) (omega arith) (c .if2 .taken)) ∙ l .inv .0
+returns-2 c =
+    let l = c .before .before .before .before .before .loop in
+    let a = c .before .before .before .before .before .before .args in
+    sym (compare-lt (a .a .now) (a .b .now) (l .i) (omega arith) (omega arith) (c .if2 .taken)) ∙ l .inv .0
 
 returns-3 : tie.Need-returns-3 Inv-loop μ-loop
-returns-3 c = let l = c .before .before .before .before .before .before .loop in let a = c .before .before .before .before .before .before .before .args in sym (compare-gt (a .a .now) (a .b .now) (l .i) (omega arith) (omega arith) (c .if3 .taken)) ∙ l .inv .0
+returns-3 c =
+    let l = c .before .before .before .before .before .before .loop in
+    let a = c .before .before .before .before .before .before .before .args in
+    sym (compare-gt (a .a .now) (a .b .now) (l .i) (omega arith) (omega arith) (c .if3 .taken)) ∙ l .inv .0
 
 add-i : tie.Need-add-i Inv-loop μ-loop
 add-i c = search needs
@@ -43,13 +52,20 @@ loop-again : tie.Need-loop-again Inv-loop μ-loop
 loop-again c =
     let l = c .before .before .before .before .before .before .loop in
     let a = c .before .before .before .before .before .before .before .args in
-    (compare-eq (a .a .now) (a .b .now) (l .i) (omega arith) (omega arith) (le-antisymm (c .if3 .left) (c .before .if2 .left)) ∙ l .inv .0, omega arith, omega arith)
+    let p1 = c .before in
+    (compare-eq (a .a .now) (a .b .now) (l .i) (omega arith) (omega arith) (le-antisymm (c .if3 .left) (p1 .if2 .left)) ∙ l .inv .0, omega arith, omega arith)
 
 returns-4 : tie.Need-returns-4 Inv-loop μ-loop
-returns-4 c = let l = c .before .before .loop in let a = c .before .before .before .args in sym (compare-past-a (a .a .now) (a .b .now) (l .i) (omega arith) (omega arith)) ∙ l .inv .0
+returns-4 c =
+    let l = c .before .before .loop in
+    let a = c .before .before .before .args in
+    sym (compare-past-a (a .a .now) (a .b .now) (l .i) (omega arith) (omega arith)) ∙ l .inv .0
 
 returns-5 : tie.Need-returns-5 Inv-loop μ-loop
-returns-5 c = let l = c .before .before .loop in let a = c .before .before .before .args in sym (compare-past-both (a .a .now) (a .b .now) (l .i) (omega arith) (omega arith)) ∙ l .inv .0
+returns-5 c =
+    let l = c .before .before .loop in
+    let a = c .before .before .before .args in
+    sym (compare-past-both (a .a .now) (a .b .now) (l .i) (omega arith) (omega arith)) ∙ l .inv .0
 
 pub compare-spec : {M : Type 1} → statement M
 compare-spec =

@@ -48,8 +48,12 @@ loop-less c = search needs
 loop-again : tie.Need-loop-again Inv-loop μ-loop
 loop-again c =
     let l = c .before .before .before .loop in
-    let s = c .before .before .before .before .args .s .now in
-    (rw (l .inv .0) (sym (num-next s (l .i) (omega arith))), num-wider (l .i) (l .x) _ (l .inv .1) (c .shared-slice-known .given (l .i) .fits), omega arith, omega arith)
+    let s = c .before .before .before .before .args .s .now in (
+      rw (l .inv .0) (sym (num-next s (l .i) (omega arith))),
+      num-wider (l .i) (l .x) _ (l .inv .1) (c .shared-slice-known .given (l .i) .fits),
+      omega arith,
+      omega arith,
+    )
 
 returns-2 : tie.Need-returns-2 Inv-loop μ-loop
 returns-2 c =

@@ -27,7 +27,10 @@ shared-slice-read-if2-2 : tie.Need-shared-slice-read-if2-2 Inv-loop μ-loop
 shared-slice-read-if2-2 c = search needs
 
 returns-2 : tie.Need-returns-2 Inv-loop μ-loop
-returns-2 c = let l = c .before .before .before .before .loop in let a = c .before .before .before .before .before .before .args in sym (same-not (a .a .now) (a .b .now) (l .i) (omega arith) (omega arith) (c .if2 .taken)) ∙ l .inv .0
+returns-2 c =
+    let l = c .before .before .before .before .loop in
+    let a = c .before .before .before .before .before .before .args in
+    sym (same-not (a .a .now) (a .b .now) (l .i) (omega arith) (omega arith) (c .if2 .taken)) ∙ l .inv .0
 
 add-i : tie.Need-add-i Inv-loop μ-loop
 add-i c = search needs
@@ -36,10 +39,16 @@ loop-less : tie.Need-loop-less Inv-loop μ-loop
 loop-less c = search needs
 
 loop-again : tie.Need-loop-again Inv-loop μ-loop
-loop-again c = let l = c .before .before .before .before .loop in let a = c .before .before .before .before .before .before .args in (same-on (a .a .now) (a .b .now) (l .i) (omega arith) (omega arith) (c .if2 .left) ∙ l .inv .0, omega arith, l .inv .2)
+loop-again c =
+    let l = c .before .before .before .before .loop in
+    let a = c .before .before .before .before .before .before .args in
+    (same-on (a .a .now) (a .b .now) (l .i) (omega arith) (omega arith) (c .if2 .left) ∙ l .inv .0, omega arith, l .inv .2)
 
 returns-3 : tie.Need-returns-3 Inv-loop μ-loop
-returns-3 c = let l = c .before .loop in let a = c .before .before .before .args in sym (same-end (a .a .now) (a .b .now) (l .i) (omega arith) (omega arith)) ∙ l .inv .0
+returns-3 c =
+    let l = c .before .loop in
+    let a = c .before .before .before .args in
+    sym (same-end (a .a .now) (a .b .now) (l .i) (omega arith) (omega arith)) ∙ l .inv .0
 
 pub same-spec : {M : Type 1} → statement M
 same-spec =

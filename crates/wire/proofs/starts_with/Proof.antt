@@ -25,7 +25,9 @@ same-requires c κs = search needs
 
 returns-2 : tie.Need-returns-2
 unfolding startsWith
-returns-2 c = let a = c .before .before .before .before .before .args in c .same .ensures ∙ ap (λ (n : ℕ). sameBytes (a .prefix .now) (take n (a .s .now))) (sub-zero (length (a .prefix .now)))
+returns-2 c =
+    let a = c .before .before .before .before .before .args in
+    c .same .ensures ∙ ap (λ (n : ℕ). sameBytes (a .prefix .now) (take n (a .s .now))) (sub-zero (length (a .prefix .now)))
 
 pub starts-with-spec : {M : Type 1} → statement M
 starts-with-spec =

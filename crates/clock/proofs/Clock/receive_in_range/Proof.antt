@@ -17,7 +17,11 @@ raised-requires : tie.Need-raised-requires
 raised-requires c κs = search needs
 
 returns : tie.Need-returns
-returns c = rw (c .before .before .skewed .ensures, c .before .later .ensures) at (c .raised .ensures) ∙ sym (far-ahead _ _ _ _ (c .before .before .before .if1 .taken))
+returns c =
+    let p1 = c .before in
+    let p2 = p1 .before in
+    let p3 = p2 .before in
+    rw (p2 .skewed .ensures, p1 .later .ensures) at (c .raised .ensures) ∙ sym (far-ahead _ _ _ _ (p3 .if1 .taken))
 
 raised-requires-2 : tie.Need-raised-requires-2
 raised-requires-2 c κs = search needs

@@ -17,7 +17,11 @@ receive-in-range-requires : tie.Need-receive-in-range-requires
 receive-in-range-requires c κs = search needs
 
 returns-4 : tie.Need-returns-4
-returns-4 c = c .receive-in-range .ensures ∙ sym (receive-in-range _ _ _ _ (c .before .before .before .before .if1 .left) (c .before .before .if2 .left) (c .before .if3 .left))
+returns-4 c =
+    let p1 = c .before in
+    let p2 = p1 .before in
+    let p4 = p2 .before .before in
+    c .receive-in-range .ensures ∙ sym (receive-in-range _ _ _ _ (p4 .if1 .left) (p2 .if2 .left) (p1 .if3 .left))
 
 pub receive-step-spec : {M : Type 1} → statement M
 receive-step-spec =

@@ -17,7 +17,11 @@ raised-requires : tie.Need-raised-requires
 raised-requires c κs = search needs
 
 returns-4 : tie.Need-returns-4
-returns-4 c = c .raised .ensures ∙ sym (send-raised _ _ (c .before .before .before .before .before .if1 .left) (c .before .before .before .if2 .left) (c .before .if3 .left))
+returns-4 c =
+    let p1 = c .before in
+    let p3 = p1 .before .before in
+    let p5 = p3 .before .before in
+    c .raised .ensures ∙ sym (send-raised _ _ (p5 .if1 .left) (p3 .if2 .left) (p1 .if3 .left))
 
 pub send-step-spec : {M : Type 1} → statement M
 send-step-spec = tie.close (tie.spec returns returns-2 returns-3 raised-requires returns-4)

@@ -14,11 +14,18 @@ returns-2 c = simp (le-ltb _ _ (c .before .before .before .if1 .left), ne-eqb _ 
 
 returns-3 : tie.Need-returns-3
 unfolding stampBelow
-returns-3 c = simp (le-ltb _ _ (c .before .before .before .before .before .before .if1 .left), eq-eqb _ _ (c .before .before .before .if2 .left), lt-ltb _ _ (c .if3 .taken))
+returns-3 c =
+    let p3 = c .before .before .before in
+    let p6 = p3 .before .before .before in
+    simp (le-ltb _ _ (p6 .if1 .left), eq-eqb _ _ (p3 .if2 .left), lt-ltb _ _ (c .if3 .taken))
 
 returns-4 : tie.Need-returns-4
 unfolding stampBelow
-returns-4 c = simp (le-ltb _ _ (c .before .before .before .before .before .before .before .before .before .if1 .left), eq-eqb _ _ (c .before .before .before .before .before .before .if2 .left), le-ltb _ _ (c .before .before .before .if3 .left), ne-eqb _ _ (c .if4 .taken))
+returns-4 c =
+    let p3 = c .before .before .before in
+    let p6 = p3 .before .before .before in
+    let p9 = p6 .before .before .before in
+    simp (le-ltb _ _ (p9 .if1 .left), eq-eqb _ _ (p6 .if2 .left), le-ltb _ _ (p3 .if3 .left), ne-eqb _ _ (c .if4 .taken))
 
 returns-5 : tie.Need-returns-5
 unfolding stampBelow

@@ -15,8 +15,10 @@ returns : tie.Need-returns
 unfolding afterAdd
 returns c =
     let a = c .before .before .args in
-    refused-gives (c .refused .result) (a .self) (addedTable (newRow (a .id) (a .address) (a .port) (a .incarnation) (a .now)) (a .self)) 9 (addAnswer (a .id) (a .now) (a .self)) (c .refused .ensures) refl
-    (add-9 (a .id) (a .now) (a .self) (c .before .if1 .taken))
+    let p1 = c .before in
+    refused-gives (c .refused .result) (a .self) (addedTable (newRow (a .id) (a .address) (a .port) (a .incarnation) (a .now)) (a .self)) 9
+    (addAnswer (a .id) (a .now) (a .self)) (c .refused .ensures) refl
+    (add-9 (a .id) (a .now) (a .self) (p1 .if1 .taken))
 
 is-sound-requires : tie.Need-is-sound-requires
 is-sound-requires c κs = search needs
@@ -28,8 +30,12 @@ returns-2 : tie.Need-returns-2
 unfolding afterAdd
 returns-2 c =
     let a = c .before .before .before .before .args in
-    refused-gives (c .refused2 .result) (a .self) (addedTable (newRow (a .id) (a .address) (a .port) (a .incarnation) (a .now)) (a .self)) 17 (addAnswer (a .id) (a .now) (a .self)) (c .refused2 .ensures) refl
-    (add-17 (a .id) (a .now) (a .self) (c .before .before .before .if1 .left) (sym (c .before .before .is-sound .ensures) ∙ not-true _ (c .before .if2 .taken)))
+    let p1 = c .before in
+    let p2 = p1 .before in
+    let p3 = p2 .before in
+    refused-gives (c .refused2 .result) (a .self) (addedTable (newRow (a .id) (a .address) (a .port) (a .incarnation) (a .now)) (a .self)) 17
+    (addAnswer (a .id) (a .now) (a .self)) (c .refused2 .ensures) refl
+    (add-17 (a .id) (a .now) (a .self) (p3 .if1 .left) (sym (p2 .is-sound .ensures) ∙ not-true _ (p1 .if2 .taken)))
 
 index-from-requires : tie.Need-index-from-requires
 index-from-requires c κs = search needs
@@ -44,8 +50,12 @@ returns-3 : tie.Need-returns-3
 unfolding afterAdd
 returns-3 c =
     let a = c .before .before .before .before .before .before .before .args in
-    refused-gives (c .refused3 .result) (a .self) (addedTable (newRow (a .id) (a .address) (a .port) (a .incarnation) (a .now)) (a .self)) 14 (addAnswer (a .id) (a .now) (a .self)) (c .refused3 .ensures) refl
-    (add-14 (a .id) (a .now) (a .self) (c .before .before .before .before .before .before .if1 .left) (sym (c .before .before .before .before .before .is-sound .ensures) ∙ not-false _ (c .before .before .before .before .if2 .left)) (omega arith))
+    let p4 = c .before .before .before .before in
+    let p5 = p4 .before in
+    let p6 = p5 .before in
+    refused-gives (c .refused3 .result) (a .self) (addedTable (newRow (a .id) (a .address) (a .port) (a .incarnation) (a .now)) (a .self)) 14
+    (addAnswer (a .id) (a .now) (a .self)) (c .refused3 .ensures) refl
+    (add-14 (a .id) (a .now) (a .self) (p6 .if1 .left) (sym (p5 .is-sound .ensures) ∙ not-false _ (p4 .if2 .left)) (omega arith))
 
 refused-requires-4 : tie.Need-refused-requires-4
 refused-requires-4 c κs = search needs
@@ -54,8 +64,13 @@ returns-4 : tie.Need-returns-4
 unfolding afterAdd
 returns-4 c =
     let a = c .before .before .before .before .before .before .before .before .args in
-    refused-gives (c .refused4 .result) (a .self) (addedTable (newRow (a .id) (a .address) (a .port) (a .incarnation) (a .now)) (a .self)) 13 (addAnswer (a .id) (a .now) (a .self)) (c .refused4 .ensures) refl
-    (add-13 (a .id) (a .now) (a .self) (c .before .before .before .before .before .before .before .if1 .left) (sym (c .before .before .before .before .before .before .is-sound .ensures) ∙ not-false _ (c .before .before .before .before .before .if2 .left)) (omega arith) (c .before .if4 .taken))
+    let p1 = c .before in
+    let p5 = p1 .before .before .before .before in
+    let p6 = p5 .before in
+    let p7 = p6 .before in
+    refused-gives (c .refused4 .result) (a .self) (addedTable (newRow (a .id) (a .address) (a .port) (a .incarnation) (a .now)) (a .self)) 13
+    (addAnswer (a .id) (a .now) (a .self)) (c .refused4 .ensures) refl
+    (add-13 (a .id) (a .now) (a .self) (p7 .if1 .left) (sym (p6 .is-sound .ensures) ∙ not-false _ (p5 .if2 .left)) (omega arith) (p1 .if4 .taken))
 
 new-requires : tie.Need-new-requires
 new-requires c κs = search needs
@@ -76,8 +91,15 @@ returns-5 : tie.Need-returns-5
 unfolding afterAdd addedTable
 returns-5 c =
     let a = c .before .before .before .before .before .before .before .before .before .before .args in
-    done-gives (c .done .result) (a .self) (addedTable (newRow (a .id) (a .address) (a .port) (a .incarnation) (a .now)) (a .self)) (addAnswer (a .id) (a .now) (a .self)) (rw (c .before .with-row .ensures, c .before .before .new .ensures) at (c .done .ensures))
-    (add-0 (a .id) (a .now) (a .self) (c .before .before .before .before .before .before .before .before .before .if1 .left) (sym (c .before .before .before .before .before .before .before .before .is-sound .ensures) ∙ not-false _ (c .before .before .before .before .before .before .before .if2 .left)) (omega arith) (c .before .before .before .if4 .left))
+    let p1 = c .before in
+    let p2 = p1 .before in
+    let p3 = p2 .before in
+    let p7 = p3 .before .before .before .before in
+    let p8 = p7 .before in
+    let p9 = p8 .before in
+    done-gives (c .done .result) (a .self) (addedTable (newRow (a .id) (a .address) (a .port) (a .incarnation) (a .now)) (a .self))
+    (addAnswer (a .id) (a .now) (a .self)) (rw (p1 .with-row .ensures, p2 .new .ensures) at (c .done .ensures))
+    (add-0 (a .id) (a .now) (a .self) (p9 .if1 .left) (sym (p8 .is-sound .ensures) ∙ not-false _ (p7 .if2 .left)) (omega arith) (p3 .if4 .left))
 
 pub add-spec : {M : Type 1} → statement M
 add-spec =

@@ -12,7 +12,9 @@ returns : tie.Need-returns
 unfolding afterFresh
 returns c =
     let a = c .before .before .args in
-    refused-gives (c .refused .result) emptyTable (freshTable (a .id) (a .address) (a .port) (a .incarnation) (a .now)) 9 (freshAnswer (a .now)) (c .refused .ensures) refl (fresh-9 (a .now) (c .before .if1 .taken))
+    let p1 = c .before in
+    refused-gives (c .refused .result) emptyTable (freshTable (a .id) (a .address) (a .port) (a .incarnation) (a .now)) 9 (freshAnswer (a .now))
+    (c .refused .ensures) refl (fresh-9 (a .now) (p1 .if1 .taken))
 
 new-requires : tie.Need-new-requires
 new-requires c κs = search needs
@@ -27,7 +29,10 @@ returns-2 : tie.Need-returns-2
 unfolding afterFresh freshTable
 returns-2 c =
     let a = c .before .before .before .args in
-    done-gives (c .done .result) emptyTable (freshTable (a .id) (a .address) (a .port) (a .incarnation) (a .now)) (freshAnswer (a .now)) (rw (c .before .new .ensures) at (c .done .ensures)) (fresh-0 (a .now) (c .before .before .if1 .left))
+    let p1 = c .before in
+    let p2 = p1 .before in
+    done-gives (c .done .result) emptyTable (freshTable (a .id) (a .address) (a .port) (a .incarnation) (a .now)) (freshAnswer (a .now))
+    (rw (p1 .new .ensures) at (c .done .ensures)) (fresh-0 (a .now) (p2 .if1 .left))
 
 pub fresh-spec : {M : Type 1} → statement M
 fresh-spec =

@@ -52,16 +52,22 @@ unfolding afterHeard
 returns c =
     let a = c .before .before .before .before .before .args in
     let w = c .before .before .answer .given in
-    refused-gives (c .refused .result) (a .t1) (withRows (onRow (a .id) (heardRow (a .incarnation) (a .now))) (a .t1)) (number (w .0 .0)) (heardAnswer (a .id) (a .incarnation) (a .now) (a .t1)) (c .refused .ensures) (number-not-0 (w .0 .0))
-    (sym (ap answerNumber (w .1)) ∙ c .before .before .before .before .judge .ensures ∙ heard-is (a .id) (a .incarnation) (a .now) (a .t1))
+    let p4 = c .before .before .before .before in
+    refused-gives (c .refused .result) (a .t1) (withRows (onRow (a .id) (heardRow (a .incarnation) (a .now))) (a .t1)) (number (w .0 .0))
+    (heardAnswer (a .id) (a .incarnation) (a .now) (a .t1)) (c .refused .ensures) (number-not-0 (w .0 .0))
+    (sym (ap answerNumber (w .1)) ∙ p4 .judge .ensures ∙ heard-is (a .id) (a .incarnation) (a .now) (a .t1))
 
 returns-2 : tie.Need-returns-2
 unfolding afterHeard
 returns-2 c =
     let s = c .before .before .before .before in
     let a = s .before .before .before .before .args in
-    row-gives (c .done .result) (a .t1) (c .before .with-row .result) (c .before .before .heard .result) (a .id) (s .index-from .result) (heardAnswer (a .id) (a .incarnation) (a .now) (a .t1)) (heardRow (a .incarnation) (a .now))
-    (c .done .ensures) (c .before .with-row .ensures) (c .before .before .heard .ensures) (omega arith) (omega (arith, peer-index (a .id) 0 (a .incarnation) (a .now) (a .t1) (accepted s))) (accepted s ∙ heard-is (a .id) (a .incarnation) (a .now) (a .t1))
+    let p1 = c .before in
+    let p2 = p1 .before in
+    row-gives (c .done .result) (a .t1) (p1 .with-row .result) (p2 .heard .result) (a .id) (s .index-from .result)
+    (heardAnswer (a .id) (a .incarnation) (a .now) (a .t1)) (heardRow (a .incarnation) (a .now))
+    (c .done .ensures) (p1 .with-row .ensures) (p2 .heard .ensures) (omega arith)
+    (omega (arith, peer-index (a .id) 0 (a .incarnation) (a .now) (a .t1) (accepted s))) (accepted s ∙ heard-is (a .id) (a .incarnation) (a .now) (a .t1))
 
 pub heard-spec : {M : Type 1} → statement M
 heard-spec =

@@ -22,7 +22,10 @@ ids-are-distinct-requires c κs = search needs
 returns-3 : tie.Need-returns-3
 returns-3 c =
     let s = c .before .before .before .before in
-    sound-twice (s .args .t1) (ten s) (c .before .before .before .if1 .left) (c .before .before .if2 .left) (sym (c .before .ids-are-distinct .ensures) ∙ not-true _ (c .if3 .taken))
+    let p1 = c .before in
+    let p2 = p1 .before in
+    let p3 = p2 .before in
+    sound-twice (s .args .t1) (ten s) (p3 .if1 .left) (p2 .if2 .left) (sym (p1 .ids-are-distinct .ensures) ∙ not-true _ (c .if3 .taken))
 
 element-copy-out-own : tie.Need-element-copy-out-own
 element-copy-out-own c = search needs
@@ -31,7 +34,9 @@ returns-4 : tie.Need-returns-4
 returns-4 c =
     let d = c .before .before .before .before in
     let s = d .before .before .before in
-    sound-dead (s .args .t1) (ten s) (d .before .before .if1 .left) (d .before .if2 .left) (sym (d .ids-are-distinct .ensures) ∙ not-false _ (c .before .before .before .if3 .left)) (c .if4 .taken)
+    let p3 = c .before .before .before in
+    sound-dead (s .args .t1) (ten s) (d .before .before .if1 .left) (d .before .if2 .left) (sym (d .ids-are-distinct .ensures) ∙ not-false _ (p3 .if3 .left))
+    (c .if4 .taken)
 
 rows-are-in-range-requires : tie.Need-rows-are-in-range-requires
 rows-are-in-range-requires c κs = search needs
@@ -40,8 +45,11 @@ returns-5 : tie.Need-returns-5
 returns-5 c =
     let d = c .before .before .before .before .before in
     let s = d .before .before .before in
+    let p1 = c .before in
+    let p4 = p1 .before .before .before in
     c .rows-are-in-range .ensures
-    ∙ sound-range (s .args .t1) (ten s) (d .before .before .if1 .left) (d .before .if2 .left) (sym (d .ids-are-distinct .ensures) ∙ not-false _ (c .before .before .before .before .if3 .left)) (c .before .if4 .left)
+    ∙ sound-range (s .args .t1) (ten s) (d .before .before .if1 .left) (d .before .if2 .left) (sym (d .ids-are-distinct .ensures) ∙ not-false _ (p4 .if3 .left))
+    (p1 .if4 .left)
 
 pub is-sound-spec : {M : Type 1} → statement M
 is-sound-spec =

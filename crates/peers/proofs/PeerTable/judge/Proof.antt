@@ -18,7 +18,10 @@ is-sound-requires c κs = search needs
 returns-3 : tie.Need-returns-3
 returns-3 c =
     let a = c .before .before .before .before .args in
-    peer-unsound (a .id) (a .state) (a .incarnation) (a .now) (a .t1) (c .before .before .before .if1 .left) (c .before .before .if2 .left) (sym (c .before .is-sound .ensures) ∙ not-true _ (c .if3 .taken))
+    let p1 = c .before in
+    let p2 = p1 .before in
+    let p3 = p2 .before in
+    peer-unsound (a .id) (a .state) (a .incarnation) (a .now) (a .t1) (p3 .if1 .left) (p2 .if2 .left) (sym (p1 .is-sound .ensures) ∙ not-true _ (c .if3 .taken))
 
 index-from-requires : tie.Need-index-from-requires
 index-from-requires c κs = search needs
@@ -27,7 +30,8 @@ returns-4 : tie.Need-returns-4
 returns-4 c =
     let s = c .before in
     let a = s .before .before .before .before .before .args in
-    peer-15 (a .id) (a .state) (a .incarnation) (a .now) (a .t1) (s .before .before .before .before .if1 .left) (s .before .before .before .if2 .left) (sym (s .before .before .is-sound .ensures) ∙ not-false _ (s .before .if3 .left)) (s .index-from .result) (omega arith) (c .if4 .taken)
+    peer-15 (a .id) (a .state) (a .incarnation) (a .now) (a .t1) (s .before .before .before .before .if1 .left) (s .before .before .before .if2 .left)
+    (sym (s .before .before .is-sound .ensures) ∙ not-false _ (s .before .if3 .left)) (s .index-from .result) (omega arith) (c .if4 .taken)
 
 row-count-requires : tie.Need-row-count-requires
 row-count-requires c κs = search needs
@@ -36,7 +40,9 @@ returns-5 : tie.Need-returns-5
 returns-5 c =
     let s = c .before .before .before in
     let a = s .before .before .before .before .before .args in
-    peer-11 (a .id) (a .state) (a .incarnation) (a .now) (a .t1) (s .before .before .before .before .if1 .left) (s .before .before .before .if2 .left) (sym (s .before .before .is-sound .ensures) ∙ not-false _ (s .before .if3 .left)) (s .index-from .result) (omega arith) (c .before .before .if4 .left) (omega arith)
+    let p2 = c .before .before in
+    peer-11 (a .id) (a .state) (a .incarnation) (a .now) (a .t1) (s .before .before .before .before .if1 .left) (s .before .before .before .if2 .left)
+    (sym (s .before .before .is-sound .ensures) ∙ not-false _ (s .before .if3 .left)) (s .index-from .result) (omega arith) (p2 .if4 .left) (omega arith)
 
 mul-row : tie.Need-mul-row
 mul-row c = search needs
@@ -48,13 +54,19 @@ returns-6 : tie.Need-returns-6
 returns-6 c =
     let s = c .before .before .before .before .before .before in
     let a = s .before .before .before .before .before .args in
-    peer-12 (a .id) (a .state) (a .incarnation) (a .now) (a .t1) (s .before .before .before .before .if1 .left) (s .before .before .before .if2 .left) (sym (s .before .before .is-sound .ensures) ∙ not-false _ (s .before .if3 .left)) (s .index-from .result) (omega arith) (c .before .before .before .before .before .if4 .left) (omega arith) (c .if6 .taken)
+    let p5 = c .before .before .before .before .before in
+    peer-12 (a .id) (a .state) (a .incarnation) (a .now) (a .t1) (s .before .before .before .before .if1 .left) (s .before .before .before .if2 .left)
+    (sym (s .before .before .is-sound .ensures) ∙ not-false _ (s .before .if3 .left)) (s .index-from .result) (omega arith) (p5 .if4 .left) (omega arith)
+    (c .if6 .taken)
 
 returns-7 : tie.Need-returns-7
 returns-7 c =
     let s = c .before .before .before .before .before .before in
     let a = s .before .before .before .before .before .args in
-    peer-0 (a .id) (a .state) (a .incarnation) (a .now) (a .t1) (s .before .before .before .before .if1 .left) (s .before .before .before .if2 .left) (sym (s .before .before .is-sound .ensures) ∙ not-false _ (s .before .if3 .left)) (s .index-from .result) (omega arith) (c .before .before .before .before .before .if4 .left) (omega arith) (c .if6 .left)
+    let p5 = c .before .before .before .before .before in
+    peer-0 (a .id) (a .state) (a .incarnation) (a .now) (a .t1) (s .before .before .before .before .if1 .left) (s .before .before .before .if2 .left)
+    (sym (s .before .before .is-sound .ensures) ∙ not-false _ (s .before .if3 .left)) (s .index-from .result) (omega arith) (p5 .if4 .left) (omega arith)
+    (c .if6 .left)
 
 pub judge-spec : {M : Type 1} → statement M
 judge-spec =

@@ -11,7 +11,8 @@ use Rattle.peers.proofs.Answers.{refused-gives, peer-index, peer-in-arr
 use Rattle.peers.proofs.PeerTable.reported.Statement.{statement}
 use Rattle.peers.proofs.PeerTable.reported.Tie as tie
 
-accepted : (c : tie.After-index-from) → let a = c .before .before .before .before .args in 0 ≡ reportedAnswer (a .id) (a .state) (a .incarnation) (a .now) (a .t1)
+accepted : (c : tie.After-index-from)
+    → let a = c .before .before .before .before .args in 0 ≡ reportedAnswer (a .id) (a .state) (a .incarnation) (a .now) (a .t1)
 accepted c = sym (ap answerNumber (c .before .enum-told .given .1)) ∙ c .before .before .before .judge .ensures
 
 below-ten : (c : tie.After-index-from) → c .index-from .result < 10
@@ -52,16 +53,22 @@ unfolding afterReported
 returns c =
     let a = c .before .before .before .before .before .args in
     let w = c .before .before .answer .given in
-    refused-gives (c .refused .result) (a .t1) (withRows (onRow (a .id) (reportedRow (a .state) (a .incarnation) (a .now))) (a .t1)) (number (w .0 .0)) (reportedAnswer (a .id) (a .state) (a .incarnation) (a .now) (a .t1)) (c .refused .ensures) (number-not-0 (w .0 .0))
-    (sym (ap answerNumber (w .1)) ∙ c .before .before .before .before .judge .ensures)
+    let p4 = c .before .before .before .before in
+    refused-gives (c .refused .result) (a .t1) (withRows (onRow (a .id) (reportedRow (a .state) (a .incarnation) (a .now))) (a .t1)) (number (w .0 .0))
+    (reportedAnswer (a .id) (a .state) (a .incarnation) (a .now) (a .t1)) (c .refused .ensures) (number-not-0 (w .0 .0))
+    (sym (ap answerNumber (w .1)) ∙ p4 .judge .ensures)
 
 returns-2 : tie.Need-returns-2
 unfolding afterReported
 returns-2 c =
     let s = c .before .before .before .before in
     let a = s .before .before .before .before .args in
-    row-gives (c .done .result) (a .t1) (c .before .with-row .result) (c .before .before .reported .result) (a .id) (s .index-from .result) (reportedAnswer (a .id) (a .state) (a .incarnation) (a .now) (a .t1)) (reportedRow (a .state) (a .incarnation) (a .now))
-    (c .done .ensures) (c .before .with-row .ensures) (c .before .before .reported .ensures) (omega arith) (omega (arith, peer-index (a .id) (a .state) (a .incarnation) (a .now) (a .t1) (accepted s))) (accepted s)
+    let p1 = c .before in
+    let p2 = p1 .before in
+    row-gives (c .done .result) (a .t1) (p1 .with-row .result) (p2 .reported .result) (a .id) (s .index-from .result)
+    (reportedAnswer (a .id) (a .state) (a .incarnation) (a .now) (a .t1)) (reportedRow (a .state) (a .incarnation) (a .now))
+    (c .done .ensures) (p1 .with-row .ensures) (p2 .reported .ensures) (omega arith)
+    (omega (arith, peer-index (a .id) (a .state) (a .incarnation) (a .now) (a .t1) (accepted s))) (accepted s)
 
 pub reported-spec : {M : Type 1} → statement M
 reported-spec =

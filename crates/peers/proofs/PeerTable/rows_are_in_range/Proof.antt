@@ -33,7 +33,9 @@ is-in-range-requires c κs = search needs
 returns : tie.Need-returns Inv-loop μ-loop
 returns c =
     let l = c .before .before .before .before .loop in
-    sym (range-stop (c .before .before .before .before .before .before .args .t1) (l .i) (omega arith) (sym (c .before .is-in-range .ensures) ∙ not-true _ (c .if1 .taken))) ∙ l .inv .1
+    let p1 = c .before in
+    let a = p1 .before .before .before .before .before .args in
+    sym (range-stop (a .t1) (l .i) (omega arith) (sym (p1 .is-in-range .ensures) ∙ not-true _ (c .if1 .taken))) ∙ l .inv .1
 
 add-i : tie.Need-add-i Inv-loop μ-loop
 add-i c = omega arith
@@ -44,7 +46,9 @@ loop-less c = omega arith
 loop-again : tie.Need-loop-again Inv-loop μ-loop
 loop-again c =
     let l = c .before .before .before .before .loop in
-    (omega arith, sym (range-next (c .before .before .before .before .before .before .args .t1) (l .i) (omega arith) (sym (c .before .is-in-range .ensures) ∙ not-false _ (c .if1 .left))) ∙ l .inv .1)
+    let p1 = c .before in
+    let a = p1 .before .before .before .before .before .args in
+    (omega arith, sym (range-next (a .t1) (l .i) (omega arith) (sym (p1 .is-in-range .ensures) ∙ not-false _ (c .if1 .left))) ∙ l .inv .1)
 
 returns-2 : tie.Need-returns-2 Inv-loop μ-loop
 returns-2 c = sym (range-past (c .before .before .before .args .t1) (c .before .loop .i) (omega arith)) ∙ c .before .loop .inv .1

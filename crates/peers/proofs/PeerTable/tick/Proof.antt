@@ -28,8 +28,12 @@ returns-2 : tie.Need-returns-2
 unfolding afterTick
 returns-2 c =
     let a = c .before .before .before .before .args in
-    refused-gives (c .refused2 .result) (a .self) (withRows (onOthers (tickRow (a .now))) (a .self)) 17 (tickAnswer (a .now) (a .self)) (c .refused2 .ensures) refl
-    (tick-17 (a .now) (a .self) (c .before .before .before .if1 .left) (sym (c .before .before .is-sound .ensures) ∙ not-true _ (c .before .if2 .taken)))
+    let p1 = c .before in
+    let p2 = p1 .before in
+    let p3 = p2 .before in
+    refused-gives (c .refused2 .result) (a .self) (withRows (onOthers (tickRow (a .now))) (a .self)) 17 (tickAnswer (a .now) (a .self)) (c .refused2 .ensures)
+    refl
+    (tick-17 (a .now) (a .self) (p3 .if1 .left) (sym (p2 .is-sound .ensures) ∙ not-true _ (p1 .if2 .taken)))
 
 ticked-requires : tie.Need-ticked-requires
 ticked-requires c κs = search needs
@@ -41,8 +45,13 @@ returns-3 : tie.Need-returns-3
 unfolding afterTick
 returns-3 c =
     let a = c .before .before .before .before .before .args in
-    done-gives (c .done .result) (a .self) (withRows (onOthers (tickRow (a .now))) (a .self)) (tickAnswer (a .now) (a .self)) (rw (c .before .ticked .ensures) at (c .done .ensures))
-    (tick-0 (a .now) (a .self) (c .before .before .before .before .if1 .left) (sym (c .before .before .before .is-sound .ensures) ∙ not-false _ (c .before .before .if2 .left)))
+    let p1 = c .before in
+    let p2 = p1 .before in
+    let p3 = p2 .before in
+    let p4 = p3 .before in
+    done-gives (c .done .result) (a .self) (withRows (onOthers (tickRow (a .now))) (a .self)) (tickAnswer (a .now) (a .self))
+    (rw (p1 .ticked .ensures) at (c .done .ensures))
+    (tick-0 (a .now) (a .self) (p4 .if1 .left) (sym (p3 .is-sound .ensures) ∙ not-false _ (p2 .if2 .left)))
 
 pub tick-spec : {M : Type 1} → statement M
 tick-spec =

@@ -1,7 +1,6 @@
 use borrow.Author.Needs.{needs}
 use mathlib.Core.Path.{ap}
-use Rattle.peers.specs.Row.{heardRow}
-use Rattle.peers.proofs.Rows.{changed}
+use Rattle.peers.specs.Row.{changed, heardRow}
 use Rattle.peers.proofs.Row.heard.Statement.{statement}
 use Rattle.peers.proofs.Row.heard.Tie as tie
 

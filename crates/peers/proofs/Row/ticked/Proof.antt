@@ -10,10 +10,16 @@ returns : tie.Need-returns
 returns c = let a = c .before .before .args in tick-down (a .self) (a .now) _ (c .before .age .ensures) (c .if1 .taken)
 
 returns-2 : tie.Need-returns-2
-returns-2 c = let a = c .before .before .before .before .before .args in tick-suspect (a .self) (a .now) _ (c .before .before .before .before .age .ensures) (c .before .before .before .if1 .left) (c .before .before .if2 .taken) (c .if3 .taken)
+returns-2 c =
+    let a = c .before .before .before .before .before .args in
+    tick-suspect (a .self) (a .now) _ (c .before .before .before .before .age .ensures) (c .before .before .before .if1 .left) (c .before .before .if2 .taken)
+    (c .if3 .taken)
 
 returns-3 : tie.Need-returns-3
-returns-3 c = let a = c .before .before .before .before .before .args in tick-held (a .self) (a .now) _ (c .before .before .before .before .age .ensures) (c .before .before .before .if1 .left) (c .before .before .if2 .taken) (c .if3 .left)
+returns-3 c =
+    let a = c .before .before .before .before .before .args in
+    tick-held (a .self) (a .now) _ (c .before .before .before .before .age .ensures) (c .before .before .before .if1 .left) (c .before .before .if2 .taken)
+    (c .if3 .left)
 
 returns-4 : tie.Need-returns-4
 returns-4 c = let a = c .before .before .before .args in tick-young (a .self) (a .now) _ (c .before .before .age .ensures) (c .before .if1 .left) (c .if2 .left)

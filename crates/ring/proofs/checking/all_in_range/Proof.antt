@@ -24,10 +24,17 @@ shared-slice-read-p : tie.Need-shared-slice-read-p Inv-loop μ-loop
 shared-slice-read-p c = search needs
 
 returns : tie.Need-returns Inv-loop μ-loop
-returns c = sym (range-high (c .before .before .before .before .args .ring .now) (c .before .before .before .loop .i) (omega arith) (c .if1 .taken)) ∙ c .before .before .before .loop .inv .1
+returns c =
+    let l = c .before .before .before .loop in
+    let a = c .before .before .before .before .args in
+    sym (range-high (a .ring .now) (l .i) (omega arith) (c .if1 .taken)) ∙ l .inv .1
 
 returns-2 : tie.Need-returns-2 Inv-loop μ-loop
-returns-2 c = sym (range-vnode (c .before .before .before .before .before .args .ring .now) (c .before .before .before .before .loop .i) (omega arith) (c .before .if1 .left) (c .if2 .taken)) ∙ c .before .before .before .before .loop .inv .1
+returns-2 c =
+    let p1 = c .before in
+    let l = p1 .before .before .before .loop in
+    let a = p1 .before .before .before .before .args in
+    sym (range-vnode (a .ring .now) (l .i) (omega arith) (p1 .if1 .left) (c .if2 .taken)) ∙ l .inv .1
 
 add-i : tie.Need-add-i Inv-loop μ-loop
 add-i c = search needs
@@ -36,7 +43,11 @@ loop-less : tie.Need-loop-less Inv-loop μ-loop
 loop-less c = search needs
 
 loop-again : tie.Need-loop-again Inv-loop μ-loop
-loop-again c = (search needs, sym (range-next (c .before .before .before .before .before .args .ring .now) (c .before .before .before .before .loop .i) (omega arith) (c .before .if1 .left) (c .if2 .left)) ∙ c .before .before .before .before .loop .inv .1)
+loop-again c =
+    let p1 = c .before in
+    let l = p1 .before .before .before .loop in
+    let a = p1 .before .before .before .before .args in
+    (search needs, sym (range-next (a .ring .now) (l .i) (omega arith) (p1 .if1 .left) (c .if2 .left)) ∙ l .inv .1)
 
 returns-3 : tie.Need-returns-3 Inv-loop μ-loop
 returns-3 c = sym (range-end (c .before .before .args .ring .now) (c .before .loop .i) (c .loop-test .left)) ∙ c .before .loop .inv .1

@@ -36,7 +36,10 @@ shared-slice-read-if1-2 : tie.Need-shared-slice-read-if1-2 Inv-loop μ-loop
 shared-slice-read-if1-2 c = search needs
 
 returns : tie.Need-returns Inv-loop μ-loop
-returns c = sym (ascending-stop (c .before .before .before .before .before .args .ring .now) (c .before .before .before .before .loop .i) (omega arith) (c .if1 .taken)) ∙ c .before .before .before .before .loop .inv .1
+returns c =
+    let l = c .before .before .before .before .loop in
+    let a = c .before .before .before .before .before .args in
+    sym (ascending-stop (a .ring .now) (l .i) (omega arith) (c .if1 .taken)) ∙ l .inv .1
 
 add-i : tie.Need-add-i Inv-loop μ-loop
 add-i c = search needs
@@ -45,7 +48,10 @@ loop-less : tie.Need-loop-less Inv-loop μ-loop
 loop-less c = search needs
 
 loop-again : tie.Need-loop-again Inv-loop μ-loop
-loop-again c = (search needs, sym (ascending-next (c .before .before .before .before .before .args .ring .now) (c .before .before .before .before .loop .i) (omega arith) (c .if1 .left)) ∙ c .before .before .before .before .loop .inv .1)
+loop-again c =
+    let l = c .before .before .before .before .loop in
+    let a = c .before .before .before .before .before .args in
+    (search needs, sym (ascending-next (a .ring .now) (l .i) (omega arith) (c .if1 .left)) ∙ l .inv .1)
 
 returns-2 : tie.Need-returns-2 Inv-loop μ-loop
 returns-2 c = sym (ascending-end (c .before .before .args .ring .now) (c .before .loop .i) (c .loop-test .left)) ∙ c .before .loop .inv .1

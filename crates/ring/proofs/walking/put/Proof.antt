@@ -31,11 +31,13 @@ loop-less : tie.Need-loop-less Inv-loop μ-loop
 loop-less c = search needs
 
 loop-again : tie.Need-loop-again Inv-loop μ-loop
-loop-again c = (
-  search needs,
-  rw length-set (c .before .loop .inv .1),
-  front-step (c .before .before .before .args .t .nodes) (c .before .before .before .args .out .now) _ (c .before .loop .i) (omega arith) (omega arith) (c .before .loop .inv .2),
-)
+loop-again c =
+    let l = c .before .loop in
+    let a = c .before .before .before .args in (
+      search needs,
+      rw length-set (l .inv .1),
+      front-step (a .t .nodes) (a .out .now) _ (l .i) (omega arith) (omega arith) (l .inv .2),
+    )
 
 same-length : tie.Need-same-length Inv-loop μ-loop
 same-length c = search needs

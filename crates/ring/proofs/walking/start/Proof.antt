@@ -33,7 +33,10 @@ loop-less : tie.Need-loop-less Inv-loop μ-loop
 loop-less c = search needs
 
 loop-again : tie.Need-loop-again Inv-loop μ-loop
-loop-again c = (search needs, omega (arith, before-next (c .before .before .before .before .args .ring .now) (c .before .before .before .loop .i) _ (omega arith) (c .if1 .left)))
+loop-again c =
+    let l = c .before .before .before .loop in
+    let a = c .before .before .before .before .args in
+    (search needs, omega (arith, before-next (a .ring .now) (l .i) _ (omega arith) (c .if1 .left)))
 
 returns-2 : tie.Need-returns-2 Inv-loop μ-loop
 returns-2 c = omega (arith, before-end (c .before .before .args .ring .now) (c .before .loop .i) (c .before .before .args .position) (c .loop-test .left))

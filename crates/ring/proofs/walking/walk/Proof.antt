@@ -52,52 +52,63 @@ loop-less c = search needs
 
 loop-again : tie.Need-loop-again Inv-loop μ-loop
 loop-again c =
+    let p1 = c .before in
+    let p2 = p1 .before in
+    let p3 = p2 .before in
+    let l = p3 .before .loop in
+    let p6 = p3 .before .before .before in
+    let a = p6 .args in
     ⊎-elim
     (λ w. (
       search needs,
       rw (w .3) (omega (arith, ltb-true)),
-      rw (w .1, length-set) (c .before .before .before .before .loop .inv .2),
-      rw (w .2, length-set) (c .before .before .before .before .loop .inv .3),
+      rw (w .1, length-set) (l .inv .2),
+      rw (w .2, length-set) (l .inv .3),
       rw (w .1, w .2, w .3)
-          (turn-take (turned (c .before .before .before .before .before .before .args .start) (c .before .before .before .before .before .before .args .ring .now)) (c .before .before .before .before .loop .free) (c .before .before .before .before .loop .nodes) (c .before .before .before .before .before .before .args .r) (c .before .before .before .before .loop .count) (c .before .before .before .before .loop .j) (c .before .place-at .result)
-          (rw (length-turned (c .before .before .before .before .before .before .args .start) (c .before .before .before .before .before .before .args .ring .now) (c .before .before .before .before .before .before .pre .0)) (c .before .before .before .loop-test .taken))
-          (ltb-true _ _ (c .before .before .if1 .taken)) (c .before .place-at .ensures) (omega (arith, ltb-true)) (w .0 .taken)
-          ∙ c .before .before .before .before .loop .inv .4),
+          (turn-take (turned (a .start) (a .ring .now)) (l .free) (l .nodes) (a .r) (l .count) (l .j) (p1 .place-at .result)
+          (rw (length-turned (a .start) (a .ring .now) (p6 .pre .0)) (p3 .loop-test .taken))
+          (ltb-true _ _ (p2 .if1 .taken)) (p1 .place-at .ensures) (omega (arith, ltb-true)) (w .0 .taken)
+          ∙ l .inv .4),
     ))
     (λ w. (
       search needs,
       rw (w .3) (omega (arith, ltb-true)),
-      rw (w .1) (c .before .before .before .before .loop .inv .2),
-      rw (w .2) (c .before .before .before .before .loop .inv .3),
+      rw (w .1) (l .inv .2),
+      rw (w .2) (l .inv .3),
       rw (w .1, w .2, w .3)
-          (turn-skip (turned (c .before .before .before .before .before .before .args .start) (c .before .before .before .before .before .before .args .ring .now)) (c .before .before .before .before .loop .free) (c .before .before .before .before .loop .nodes) (c .before .before .before .before .before .before .args .r) (c .before .before .before .before .loop .count) (c .before .before .before .before .loop .j) (c .before .place-at .result)
-          (rw (length-turned (c .before .before .before .before .before .before .args .start) (c .before .before .before .before .before .before .args .ring .now) (c .before .before .before .before .before .before .pre .0)) (c .before .before .before .loop-test .taken))
-          (ltb-true _ _ (c .before .before .if1 .taken)) (c .before .place-at .ensures) (w .0 .left)
-          ∙ c .before .before .before .before .loop .inv .4),
+          (turn-skip (turned (a .start) (a .ring .now)) (l .free) (l .nodes) (a .r) (l .count) (l .j) (p1 .place-at .result)
+          (rw (length-turned (a .start) (a .ring .now) (p6 .pre .0)) (p3 .loop-test .taken))
+          (ltb-true _ _ (p2 .if1 .taken)) (p1 .place-at .ensures) (w .0 .left)
+          ∙ l .inv .4),
     ))
     (c .if2 .came)
 
 returns : tie.Need-returns Inv-loop μ-loop
 returns c =
+    let l = c .before .before .loop in
+    let a = c .before .before .before .before .args in
     record {
-      size = c .before .before .loop .inv .3;
-      most = c .before .before .loop .inv .1;
+      size = l .inv .3;
+      most = l .inv .1;
       taken =
-          turn-end (take (c .before .before .loop .count) (c .before .before .loop .nodes)) _ (c .before .before .before .before .args .r) (c .before .before .before .before .args .flags) (map node (turned (c .before .before .before .before .args .start) (c .before .before .before .before .args .ring .now)))
-          (gather-full (map node (turned (c .before .before .before .before .args .start) (c .before .before .before .before .args .ring .now))) (c .before .before .loop .free) (c .before .before .before .before .args .r) (c .before .before .loop .count) (c .before .before .loop .j) (ltb-false _ _ (c .if1 .left)))
-          (c .before .before .loop .inv .4);
+          turn-end (take (l .count) (l .nodes)) _ (a .r) (a .flags) (map node (turned (a .start) (a .ring .now)))
+          (gather-full (map node (turned (a .start) (a .ring .now))) (l .free) (a .r) (l .count) (l .j) (ltb-false _ _ (c .if1 .left)))
+          (l .inv .4);
     }
 
 returns-2 : tie.Need-returns-2 Inv-loop μ-loop
 returns-2 c =
+    let l = c .before .loop in
+    let p3 = c .before .before .before in
+    let a = p3 .args in
     record {
-      size = c .before .loop .inv .3;
-      most = c .before .loop .inv .1;
+      size = l .inv .3;
+      most = l .inv .1;
       taken =
-          turn-end (take (c .before .loop .count) (c .before .loop .nodes)) _ (c .before .before .before .args .r) (c .before .before .before .args .flags) (map node (turned (c .before .before .before .args .start) (c .before .before .before .args .ring .now)))
-          (gather-end (map node (turned (c .before .before .before .args .start) (c .before .before .before .args .ring .now))) (c .before .loop .free) (c .before .before .before .args .r) (c .before .loop .count) (c .before .loop .j)
-          (rw (length-nodes (c .before .before .before .args .start) (c .before .before .before .args .ring .now) (c .before .before .before .pre .0)) (c .loop-test .left)))
-          (c .before .loop .inv .4);
+          turn-end (take (l .count) (l .nodes)) _ (a .r) (a .flags) (map node (turned (a .start) (a .ring .now)))
+          (gather-end (map node (turned (a .start) (a .ring .now))) (l .free) (a .r) (l .count) (l .j)
+          (rw (length-nodes (a .start) (a .ring .now) (p3 .pre .0)) (c .loop-test .left)))
+          (l .inv .4);
     }
 
 pub walk-spec : {M : Type 1} → statement M
