@@ -1,4 +1,5 @@
--- The remainder by a table: the turns of the code's loop, and that by the table of CRC32C it is the remainder by bits.
+-- The remainder by a table: the turns of the code's loop, and that by the table of CRC32C it is the
+-- remainder by bits.
 use mathlib.Core.Path.{_≡_, refl, sym, ap, ap₂, _∙_}
 use mathlib.Core.List.{List, [], _∷_}
 use Prim.Native.Nat.{ℕ, zero, suc, _+_, _-_, _*_, _/_, _%_, _^_, _≤_, _<_}

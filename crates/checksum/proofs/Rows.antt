@@ -1,4 +1,4 @@
--- The rule of the table at each of its entries, and the table from what it has at the powers of two.
+-- The rule of the table at each entry, and the table from what it has at the powers of two.
 use mathlib.Core.Path.{_≡_, refl, sym, ap, ap₂, _∙_}
 use mathlib.Core.List.{List, [], _∷_, _++_, map, map-append}
 use Prim.Native.Nat.{ℕ, zero, suc, _+_, _*_, _^_, _≤_, _<_}

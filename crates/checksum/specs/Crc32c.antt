@@ -1,4 +1,5 @@
--- CRC32C of a list of bytes, by bits: reflected polynomial 0x82F63B78, started and finished with all ones.
+-- CRC32C of a list of bytes, by bits: reflected polynomial 0x82F63B78, started and finished with
+-- all ones.
 use mathlib.Core.List.{List, [], _∷_}
 use Prim.Native.Nat.{ℕ, zero, suc, _*_, _/_, _%_}
 use lib.Bits.{bitXor}

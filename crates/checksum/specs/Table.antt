@@ -1,4 +1,5 @@
--- The table of CRC32C, and the checksum that a table gives: sixteen bytes a turn, a row of the table for each, then the rest byte by byte.
+-- The table of CRC32C, and the checksum that a table gives: sixteen bytes a turn, a row of the
+-- table for each, then the rest byte by byte.
 use mathlib.Core.List.{List, [], _∷_, _++_, map}
 use mathlib.Core.Path.{_≡_}
 use Prim.Native.Nat.{ℕ, zero, suc, _+_, _*_, _/_, _%_}
@@ -41,7 +42,7 @@ unfoldable pub bytesWith : List ℕ → ℕ → List ℕ → ℕ
 bytesWith t c [] = c
 bytesWith t c (b ∷ s) = bytesWith t (byteStepWith t c b) s
 
--- a number of n + 1 bytes, by the rows from k on: the highest byte by row k, the lowest by row k + n
+-- a number of n + 1 bytes, by the rows k to k + n: the highest byte by the first of them
 unfoldable pub lanesWith : List ℕ → ℕ → ℕ → ℕ → ℕ
 lanesWith t k zero v = entryOf t k v
 lanesWith t k (suc n) v = bitXor (lanesWith t k n (v / 256)) (entryOf t (k + suc n) (v % 256))
@@ -51,7 +52,8 @@ unfoldable pub littleEndian : List ℕ → ℕ
 littleEndian [] = 0
 littleEndian (b ∷ s) = littleEndian s * 256 + b
 
--- the first sixteen bytes of a list: the second eight by the first eight rows, the first eight, with the remainder, by the others
+-- the first sixteen bytes of a list: the second eight by the first eight rows, the first eight,
+-- with the remainder, by the others
 unfoldable pub blockWith : List ℕ → ℕ → List ℕ → ℕ
 blockWith t c s = bitXor (lanesWith t 0 7 (littleEndian (take 8 (drop 8 s)))) (lanesWith t 8 7 (bitXor c (littleEndian (take 8 s))))
 
@@ -67,7 +69,8 @@ runWith t c s = bytesWith t (blocksWith t (length s / 16) c s) (drop (length s /
 unfoldable pub crcWith : List ℕ → List ℕ → ℕ
 crcWith t s = bitXor (runWith t 0xFFFF_FFFF s) 0xFFFF_FFFF
 
--- the remainder r that a table gives from a start on, whatever the table; with the table of CRC32C it is the remainder by bits
+-- the remainder r that a table gives from a start on, whatever the table; with the table of CRC32C
+-- it is the remainder by bits
 pub record PartWith (t : List ℕ) (start : ℕ) (s : List ℕ) (r : ℕ) : Type 0 where
   pub result : r ≡ runWith t start s
   pub by-bits : t ≡ crcTable → r ≡ run start s

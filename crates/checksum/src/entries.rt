@@ -1,4 +1,4 @@
-// The entries of CRC32C's table: sixteen rows of 256. Row k has at i what i becomes after k + 1 bytes.
+// The entries of CRC32C's table: sixteen rows of 256. Row k: what i becomes after k + 1 bytes.
 pub(crate) const TABLE: [u32; 4096] = [
     0,
     4067132163,

@@ -20,7 +20,8 @@ next-is : {c d : Clock} → next c ≡ next d → c ≡ d
 next-is e = cc
 
 module _ (c b d : Clock) where
-  -- a raise from c, or from c with its skew count risen, to phys p at or above P, from a count that is L if p is P
+  -- a raise from c, or from c with its skew count risen, to phys p at or above P, from a count that
+  -- is L if p is P
   raised : (p l : ℕ) → raise b p l ≡ next d → b .node ≡ c .node → c .skew ≤ b .skew → p < 2 ^ 48 → (c .phys < p) ⊎ ((c .phys ≡ p) × (c .logical ≡ l))
       → Rises c d
   unfolding raise

@@ -34,8 +34,8 @@ sendStep c now =
     (cond (ltb (c .phys) now) (next (record { phys = now; logical = 0; node = c .node; skew = c .skew }))
     (raise c (c .phys) (c .logical)))
 
--- receive (p, l) at now: if p > now + 2000, the clock becomes (max(P, now), L + 1) and the skew count rises;
--- otherwise, if p > P, it becomes (p, l + 1); otherwise (P, L + 1)
+-- receive (p, l) at now: if p > now + 2000, the clock becomes (max(P, now), L + 1) and the skew
+-- count rises; otherwise, if p > P, it becomes (p, l + 1); otherwise (P, L + 1)
 unfoldable pub receiveInRange : Clock → ℕ → ℕ → ℕ → Stepped
 receiveInRange c p l now =
     cond (ltb (now + 2000) p) (raise (withSkew c) (max (c .phys) now) (c .logical))

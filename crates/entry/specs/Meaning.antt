@@ -24,7 +24,8 @@ KeysStrictlyOrdered = StrictTotal keyBelow
 abbrev pub StampsStrictlyOrdered : Type 0
 StampsStrictlyOrdered = StrictTotal stampBelow
 
--- a stamp is below another exactly if its phys is less, or phys is equal and logical is less, or both are equal and node is less
+-- a stamp is below another exactly if its phys is less, or phys is equal and logical is less, or
+-- both are equal and node is less
 abbrev pub StampOrderByField : Type 0
 StampOrderByField = (s t : Stamp) → stampBelow s t ≡ true
     ↔ (s .phys < t .phys)

@@ -1,4 +1,5 @@
-// What every part of the store shares: the refusal numbers, the limits, the key rule, stamps, and when an entry is acceptable.
+// What every part of the store shares: the refusal numbers, the limits, the key rule, stamps, and
+// when an entry is acceptable.
 use wire::starts_with;
 ghost use mathlib.Core.Path.{_≡_};
 ghost use mathlib.Core.Bool.{not};

@@ -26,7 +26,8 @@ module _ (n : ℕ) (t u : PeerTable) where
   unfolding unlessRefused
   if-done e = rw (eq-eqb n 0 e)
 
-  -- what holds of the table that came in, and of the changed one after an answer of 0, holds of the table after
+  -- what holds of the table that came in, and of the changed one after an answer of 0, holds of the
+  -- table after
   pub either-way : (P : PeerTable → Type 0) → P t → (n ≡ 0 → P u) → P (unlessRefused n t u)
   unfolding unlessRefused
   either-way P p q = cases (eqb n 0) (λ e. rw e (q (eqb-true n 0 e))) (λ e. rw e p)

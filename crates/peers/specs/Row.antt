@@ -24,8 +24,8 @@ changed r s n seen = record { id = r .id; address = r .address; port = r .port; 
 unfoldable pub heardRow : ℕ → ℕ → Row → Row
 heardRow n now r = changed r 0 n (max (r .«last_seen») now)
 
--- reported: a higher incarnation is taken with its state, and if that is ALIVE, last seen is the later of itself and now;
--- equal: the worse state stays
+-- reported: a higher incarnation is taken with its state, and if that is ALIVE, last seen is the
+-- later of itself and now; equal: the worse state stays
 unfoldable pub reportedRow : ℕ → ℕ → ℕ → Row → Row
 reportedRow s n now r =
     cond (ltb (r .incarnation) n) (changed r s n (cond (eqb s 0) (max (r .«last_seen») now) (r .«last_seen»)))

@@ -1,4 +1,5 @@
-// The peer table: each peer's address, state and when it was last seen. A table goes in by value and each event hands it back changed.
+// The peer table: each peer's address, state and when it was last seen. A table goes in by value
+// and each event hands it back changed.
 use entry::Refusal;
 use entry::TIME_LIMIT;
 use entry::later;

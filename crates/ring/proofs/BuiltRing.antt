@@ -1,4 +1,5 @@
--- Places have their parts and order, and a ring that was built is sound and has exactly the places of its ids.
+-- Places have their parts and order, and a ring that was built is sound and has exactly the places
+-- of its ids.
 use mathlib.Core.Path.{_≡_, refl, sym, ap, _∙_}
 use mathlib.Core.Logic.{_⊎_, inl, inr}
 use mathlib.Core.Bool.{true, false, or-true}

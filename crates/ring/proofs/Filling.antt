@@ -1,4 +1,5 @@
--- The places of all ids, written one after the other and sorted, and the answer of building a ring, check by check.
+-- The places of all ids, written one after the other and sorted, and the answer of building a ring,
+-- check by check.
 use mathlib.Core.Path.{_≡_, refl, sym, ap, ap₂, _∙_}
 use mathlib.Core.Bool.{true, false, not, _||_}
 use mathlib.Core.List.{List, [], _∷_, _++_, append-assoc}

@@ -1,4 +1,5 @@
--- The walk one place at a time: the ring from a place on and round, and the nodes taken from it, a node's flag cleared as it is taken.
+-- The walk one place at a time: the ring from a place on and round, and the nodes taken from it, a
+-- node's flag cleared as it is taken.
 use mathlib.Core.Path.{_≡_, refl, sym, ap, ap₂, _∙_}
 use mathlib.Core.Bool.{Bool, true, false, cond, not, _&&_}
 use mathlib.Core.List.{List, [], _∷_, _++_, map, append-assoc, append-nil}

@@ -29,7 +29,8 @@ abbrev pub ownershipMeaning : Ownership → Answer
 ownershipMeaning (Found n) = gives n
 ownershipMeaning (WalkRefused r) = refuses (number r)
 
--- a success writes to the front of the lent slice and leaves the later elements; a refusal writes nothing
+-- a success writes to the front of the lent slice and leaves the later elements; a refusal writes
+-- nothing
 abbrev pub written : Answer → List ℕ → List ℕ → List ℕ
 written (gives n) front lent = front ++ drop (length front) lent
 written (refuses n) front lent = lent

@@ -29,7 +29,8 @@ PlaceOrder = (t n i t′ n′ i′ : ℕ) → n < 256 → i < 256 → n′ < 256
     → placeNumber t n i < placeNumber t′ n′ i′ ↔ (t < t′) ⊎ ((t ≡ t′) × (n < n′)) ⊎ ((t ≡ t′) × (n ≡ n′) × (i < i′))
 
 -- ---- building
--- the ring is sound and has exactly the places of its ids; a node has a place exactly if it is one of them
+-- the ring is sound and has exactly the places of its ids; a node has a place exactly if it is one
+-- of them
 pub record BuiltRing (ids : List ℕ) (v s : ℕ) (ring : List ℕ) : Type 0 where
   pub sound : soundRing ring ≡ true
   pub size : length ring ≡ length ids * v
@@ -49,7 +50,8 @@ pub record MeetsAdmitted (admitted : ℕ → Bool) (x : ℕ) (ring : List ℕ) :
   pub once : distinct (met admitted x ring) ≡ true
   pub count : length (met admitted x ring) ≡ admittedWithPlace admitted ring
 
--- r distinct admitted nodes that have a place, in the order in which the walk from x meets them, with no admitted node passed over
+-- r distinct admitted nodes that have a place, in the order in which the walk from x meets them,
+-- with no admitted node passed over
 pub record OwnerList (admitted : ℕ → Bool) (x r : ℕ) (ring owners : List ℕ) : Type 0 where
   pub size : length owners ≡ r
   pub once : distinct owners ≡ true

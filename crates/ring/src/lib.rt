@@ -86,7 +86,8 @@ pub fn build(ids: &[u8], vnodes: u8, salt: u32, ring: &mut [u64]) -> Built
     Built::Places(places)
 }
 
-// Whether `ring` is sound: at most 640 places, strictly ascending, each below 2^48 with vnode below 64.
+// Whether `ring` is sound: at most 640 places, strictly ascending, each below 2^48, vnode
+// below 64.
 pub fn is_sound(ring: &[u64]) -> bool
     ensures { λ r. ⌜ r ≡ soundRing (now (ring .entry)) ⌝ }
 {
@@ -99,7 +100,8 @@ pub fn is_sound(ring: &[u64]) -> bool
     all_in_range(ring)
 }
 
-// Finds the owners of a position: the first `count` admitted nodes that the walk from it meets, written to the front of `out`.
+// Finds the owners of a position: the first `count` admitted nodes that the walk from it meets,
+// written to the front of `out`.
 pub fn owners(
     ring: &[u64],
     peers: PeerTable,

@@ -56,7 +56,8 @@ fn place_at(ring: &[u64], start: usize, j: usize) -> u64
     }
 }
 
-// The first `r` flagged nodes from the place at `start` on and round, each the first time it is met: its flag is cleared then.
+// The first `r` flagged nodes from the place at `start` on and round, each the first time it is
+// met: its flag is cleared then.
 pub(crate) fn walk(ring: &[u64], start: usize, flags: Flags, r: usize) -> Taken
     requires { ⌜ (start ≤ length (now ring)) × (r ≤ 3) ⌝ }
     ensures { λ t. ⌜ Walked flags start r (now (ring .entry)) (t .nodes) (t .count) ⌝ }

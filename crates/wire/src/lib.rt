@@ -1,5 +1,5 @@
-// Bytes as frames and store images use them: big-endian numbers, zero fill, and byte strings compared.
-// Each function is total: it answers something defined for any slices.
+// Bytes as frames and store images use them: big-endian numbers, zero fill, and byte strings
+// compared. Each function is total: it answers something defined for any slices.
 ghost use mathlib.Core.Path.{_≡_};
 ghost use Prim.Native.Nat.{_≤_};
 ghost use lib.ListN.{length, getD, take};
@@ -62,7 +62,8 @@ pub fn put_padded(out: &mut [u8], s: &[u8])
     }
 }
 
-// Whether a few bytes are zeros alone: their sum is 0. No turn depends on a byte, so that the compiler can take many at once.
+// Whether a few bytes are zeros alone: their sum is 0. No turn depends on a byte, so that the
+// compiler can take many at once.
 fn block_is_zero(s: &[u8]) -> bool
     requires { ⌜ length (now s) ≤ 64 ⌝ }
     ensures { λ r. ⌜ r ≡ sameBytes (now (s .entry)) (zeros (length (now (s .entry)))) ⌝ }
