@@ -1,5 +1,6 @@
 //! Running cases and comparing the two sides.
 
+use reference::Refusal;
 use std::collections::BTreeMap;
 use std::fmt::Debug;
 use support::Rng;
@@ -54,13 +55,17 @@ pub struct Tally {
     pub met: BTreeMap<(&'static str, u32), u64>,
 }
 
+fn is_refusal(number: u32) -> bool {
+    u8::try_from(number).is_ok_and(|n| Refusal::from_number(n).is_some())
+}
+
 impl Tally {
     fn add(&mut self, call: &'static str, result: u32) {
         self.compared += 1;
         // Other results are counts, or no results with two halves.
         let key = match (result >> 16, result & 0xFFFF) {
             (0, 0..=2) => result,
-            (refusal @ 1..=17, _) => refusal << 16,
+            (refusal, _) if is_refusal(refusal) => refusal << 16,
             _ => return,
         };
         *self.met.entry((call, key)).or_default() += 1;

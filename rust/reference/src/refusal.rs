@@ -1,9 +1,23 @@
 //! The numbered refusals.
 
-/// Why a call was refused. The value of each case is its number.
-#[derive(Clone, Copy, Debug, PartialEq, Eq, PartialOrd, Ord)]
-#[repr(u8)]
-pub enum Refusal {
+/// The enum and the list of its cases, from one table.
+macro_rules! refusals {
+    ($($case:ident = $number:literal,)+) => {
+        /// Why a call was refused. The value of each case is its number.
+        #[derive(Clone, Copy, Debug, PartialEq, Eq, PartialOrd, Ord)]
+        #[repr(u8)]
+        pub enum Refusal {
+            $($case = $number,)+
+        }
+
+        impl Refusal {
+            /// Every refusal, in the order of the numbers.
+            pub const ALL: &'static [Refusal] = &[$(Refusal::$case,)+];
+        }
+    };
+}
+
+refusals! {
     BadKey = 1,
     ValueTooLarge = 2,
     BadFrame = 3,
@@ -24,32 +38,11 @@ pub enum Refusal {
 }
 
 impl Refusal {
-    /// Every refusal, in the order of the numbers.
-    pub const ALL: [Refusal; 17] = [
-        Refusal::BadKey,
-        Refusal::ValueTooLarge,
-        Refusal::BadFrame,
-        Refusal::NoRoom,
-        Refusal::BadStore,
-        Refusal::StoreFull,
-        Refusal::Overtaken,
-        Refusal::ClockSpent,
-        Refusal::BadTime,
-        Refusal::TooFew,
-        Refusal::UnknownPeer,
-        Refusal::Stale,
-        Refusal::TableFull,
-        Refusal::PeerKnown,
-        Refusal::SelfPeer,
-        Refusal::BadRing,
-        Refusal::BadArgument,
-    ];
-
     pub fn number(self) -> u8 {
         self as u8
     }
 
     pub fn from_number(number: u8) -> Option<Refusal> {
-        Refusal::ALL.into_iter().find(|r| r.number() == number)
+        Refusal::ALL.iter().copied().find(|r| r.number() == number)
     }
 }

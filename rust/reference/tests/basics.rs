@@ -6,13 +6,14 @@ use reference::value;
 use reference::Refusal;
 
 #[test]
-fn refusals_are_numbered_from_1_to_17() {
-    for (i, refusal) in Refusal::ALL.into_iter().enumerate() {
+fn refusals_are_numbered_from_1_on() {
+    for (i, &refusal) in Refusal::ALL.iter().enumerate() {
         assert_eq!(usize::from(refusal.number()), i + 1);
         assert_eq!(Refusal::from_number(refusal.number()), Some(refusal));
     }
     assert_eq!(Refusal::from_number(0), None);
-    assert_eq!(Refusal::from_number(18), None);
+    let next = Refusal::ALL.len() as u8 + 1;
+    assert_eq!(Refusal::from_number(next), None);
 }
 
 #[test]

@@ -104,9 +104,9 @@ fn header(header: &str) -> Table {
     numbered(lines.into_iter(), "#define SP_", " ")
 }
 
-/// The second program's enum.
+/// The second program's table.
 fn reference(model: &str) -> Table {
-    let lines = block(model, "pub enum Refusal {", "}");
+    let lines = block(model, "refusals! {", "}");
     by_rules_name(numbered(lines.into_iter(), "", "="))
 }
 
@@ -145,7 +145,7 @@ fn differences_are_seen() {
     let defined = "number refusal.BadKey = 1\nnumber refusal.OwnPeer = 2\nlastNumber = 2\n";
     assert_eq!(definition(defined), right);
     assert_eq!(last_number(defined), 2);
-    let model = "pub enum Refusal {\n    BadKey = 1,\n    SelfPeer = 2,\n}\n";
+    let model = "refusals! {\n    BadKey = 1,\n    SelfPeer = 2,\n}\n";
     assert_eq!(reference(model), right);
     assert_ne!(reference(&model.replace("= 2", "= 3")), right);
 }
