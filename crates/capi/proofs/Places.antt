@@ -1,26 +1,17 @@
 -- The bytes at the places that are put out: the value in a store, and the key and the value in a frame.
 use mathlib.Core.Path.{_≡_, refl, sym, ap, _∙_}
-use mathlib.Core.Logic.{inl, inr}
 use mathlib.Core.List.{List, [], _∷_, _++_, append-assoc, append-nil}
-use mathlib.Core.Option.{Option, none, some, Option·none-ne-some, Option·some-injective}
-use Prim.Native.Nat.{ℕ, zero, suc, _+_, _*_, _<_}
+use Prim.Native.Nat.{ℕ, _+_}
 use native.Mathlib.Omega.{arith}
-use lib.ListN.{length, take, drop, length-append}
-use lib.Dec.{eqb}
-use Rattle.wire.specs.Number.{be, num}
+use lib.ListN.{length, length-append}
+use Rattle.wire.specs.Number.{be}
 use Rattle.wire.specs.Fill.{field}
-use Rattle.wire.specs.Order.{sameBytes}
-use Rattle.wire.proofs.Tests.{test}
 use Rattle.wire.proofs.Number.{length-be}
-use Rattle.wire.proofs.Fields.{field-part}
 use Rattle.checksum.specs.Crc32c.{crc32c}
-use Rattle.entry.specs.Key.{badKey}
-use Rattle.entry.specs.Entry.{Entry}
-use Rattle.image.specs.Image.{valueIn, slotEntry, entriesOf, sound}
-use Rattle.image.specs.Slot.{slotAt}
-use Rattle.image.proofs.ImageLaws.{entry-at, used-is}
-use Rattle.store.specs.Held.{find}
-use Rattle.store.specs.Lookup.{Finding, findingFor, valueFor, lookupAnswer, valuePart}
+use Rattle.store.specs.Lookup.{Finding, lookupAnswer, valuePart}
+use Rattle.store.specs.Lookup as lookup
+use Rattle.store.proofs.Looking.{value-stands, no-value}
+use Rattle.image.proofs.Compared.{distinct}
 use Rattle.frame.specs.Message.{Message, put, get, del, repl, ok, value, notFound, err}
 use Rattle.frame.specs.Layout.{counted, stampBytes, typeOf, body, envelope, frameOf}
 use Rattle.frame.specs.Reading.{Outcome}
@@ -28,71 +19,19 @@ use Rattle.frame.proofs.Fields.{field-between}
 use Rattle.frame.proofs.Bodies.{length-counted, length-stamp}
 use Rattle.frame.proofs.RoundTrips.{read-writes-back}
 use Rattle.capi.specs.Frame.{fieldWords, readWords}
-use Rattle.capi.specs.Store.{indexOf, valueAt, placeWords}
+use Rattle.capi.specs.Store.{placeWords}
 use Rattle.capi.specs.Meaning.{partAt, ValuePlace, keyOf, valueOf, FieldPlaces}
 
 -- ---- the value in a store
-take-part : (n m : ℕ) (l : List ℕ) → take (length (take n (take m l))) l ≡ take n (take m l)
-take-part zero m l = refl
-take-part (suc n) zero l = refl
-take-part (suc n) (suc m) [] = refl
-take-part (suc n) (suc m) (x ∷ l) = ap (λ (r : List ℕ). x ∷ r) (take-part n m l)
-
-field-front : (n a m : ℕ) (s : List ℕ) → field a (length (take n (field a m s))) s ≡ take n (field a m s)
+at-place : (s k : List ℕ) (f : Finding) → lookupAnswer s k ≡ f → partAt 0 (placeWords f) s ≡ valuePart s k
 unfolding field
-field-front n a m s = take-part n m (drop a s)
-
-slot-value : (i : ℕ) (s : List ℕ) → field (valueAt i) (length (valueIn (slotAt i s))) s ≡ valueIn (slotAt i s)
-unfolding valueIn slotAt
-slot-value i s =
-    let n = num (field 2 2 (slotAt i s)) in
-    let a : 16 + 596 * i + 80 ≡ valueAt i = omega arith in
-    let v : valueIn (slotAt i s) ≡ take n (field (valueAt i) 512 s) = ap (take n) (field-part (16 + 596 * i) 596 80 512 s (omega arith) ∙ ap (λ (b : ℕ). field b 512 s) a) in
-    ap (λ (l : List ℕ). field (valueAt i) (length l) s) v ∙ field-front n (valueAt i) 512 s ∙ sym v
-
--- the entry that is found stands at its index
-found-there : (k : List ℕ) (es : List Entry) (h : Entry) → find k es ≡ some h
-    → (indexOf k es < length es) × (drop (indexOf k es) es ≡ h ∷ drop (suc (indexOf k es)) es)
-unfolding find indexOf
-found-there k [] h n = absurd (Option·none-ne-some h n)
-found-there k (g ∷ es) h n = elim (test (sameBytes k (g .key))) [
-  | inl q ↦ rw q (omega arith, ap (λ (x : Entry). x ∷ es) (Option·some-injective g h (rw q at n)))
-  | inr q ↦ let r = found-there k es h (rw q at n) in rw q (omega (arith, r .0), r .1)
-]
-
-same-first : (a b : Entry) (r s : List Entry) → a ∷ r ≡ b ∷ s → a ≡ b
-same-first a b r s h = cc
-
-found-value : (s k : List ℕ) (h : Entry) → find k (entriesOf s) ≡ some h → field (valueAt (indexOf k (entriesOf s))) (length (h .value)) s ≡ h .value
-unfolding slotEntry
-found-value s k h n =
-    let i = indexOf k (entriesOf s) in
-    let t = found-there k (entriesOf s) h n in
-    let e : h ≡ slotEntry (slotAt i s) = same-first h (slotEntry (slotAt i s)) _ _ (sym (t .1) ∙ entry-at i s (omega (arith, used-is s, t .0))) in
-    ap (λ (x : Entry). field (valueAt i) (length (x .value)) s) e ∙ slot-value i s ∙ sym (ap (λ (x : Entry). x .value) e)
-
-place-for : (s k : List ℕ) (o : Option Entry) → find k (entriesOf s) ≡ o → valuePart s k ≡ valueFor o → partAt 0 (placeWords s k (findingFor o)) s ≡ valueFor o
-unfolding findingFor valueFor field
-place-for s k none e v = refl
-place-for s k (some h) e v = elim (test (eqb (h .flag) 1)) [
-  | inl p ↦ rw p
-  | inr p ↦
-      let w : valuePart s k ≡ h .value = rw p at v in
-      rw p (ap (λ (l : List ℕ). field (valueAt (indexOf k (entriesOf s))) (length l) s) w ∙ found-value s k h e)
-]
+at-place s k (lookup.value at len) e = value-stands s k at len e .1
+at-place s k lookup.deleted e = no-value s k (λ at len q. distinct lookup.deleted (lookup.value at len) (λ r. cc) (sym e ∙ q))
+at-place s k lookup.never e = no-value s k (λ at len q. distinct lookup.never (lookup.value at len) (λ r. cc) (sym e ∙ q))
+at-place s k (lookup.refused n) e = no-value s k (λ at len q. distinct (lookup.refused n) (lookup.value at len) (λ r. cc) (sym e ∙ q))
 
 pub value-place : ValuePlace
-unfolding lookupAnswer valuePart field
-value-place s k = elim (test (sound s)) [
-  | inl p ↦ elim (test (badKey k)) [
-    | inl q ↦ rw (p, q)
-    | inr q ↦
-        let v : valuePart s k ≡ valueFor (find k (entriesOf s)) = rw (p, q) in
-        let f : lookupAnswer s k ≡ findingFor (find k (entriesOf s)) = rw (p, q) in
-        ap (λ (x : Finding). partAt 0 (placeWords s k x) s) f ∙ place-for s k (find k (entriesOf s)) refl v ∙ sym v
-  ]
-  | inr p ↦ rw p
-]
+value-place s k = at-place s k (lookupAnswer s k) refl
 
 -- ---- the key and the value in a frame
 -- a part of the body stands four places later in the frame

@@ -86,7 +86,7 @@ partAt i w s = field (word w i) (word w (i + 1)) s
 
 -- at the place that a lookup puts out the store has the value of the key, and no bytes where there is none
 abbrev pub ValuePlace : Type 0
-ValuePlace = (store key : List ℕ) → partAt 0 (placeWords store key (lookupAnswer store key)) store ≡ valuePart store key
+ValuePlace = (store key : List ℕ) → partAt 0 (placeWords (lookupAnswer store key)) store ≡ valuePart store key
 
 -- the key of a message, and its value; empty where it has none
 abbrev pub keyOf : Message → List ℕ

@@ -50,7 +50,7 @@ ghost use Rattle.ring.specs.Sound.{soundRing};
 ghost use Rattle.frame.specs.Message.{put, get, del, repl, ok, value as valueOf, notFound, err};
 ghost use Rattle.frame.specs.Reading.{readFrame};
 ghost use Rattle.frame.specs.Writing.{writeRefusal, afterWrite};
-ghost use Rattle.image.specs.Image.{entriesOf, sound as soundStore};
+ghost use Rattle.image.specs.Image.{sound as soundStore};
 ghost use Rattle.store.specs.Create.{createRefusal, afterCreate};
 ghost use Rattle.store.specs.Lookup.{findingOf, lookupAnswer};
 ghost use Rattle.store.specs.Offer.{offerAnswer, afterOffer};
@@ -62,7 +62,7 @@ ghost use Rattle.capi.specs.Handle.{handleWord, handleStore, handleClock
 ghost use Rattle.capi.specs.Peers.{formRefusal, eventRefusal, eventWords, soundWords};
 ghost use Rattle.capi.specs.Ring.{refusalIn, givenIn, answerWord, admissionOf, badForm, ownersRefusal, ownersBytes};
 ghost use Rattle.capi.specs.Frame.{readRefusal, readWords, writeWord, writeBytes};
-ghost use Rattle.capi.specs.Store.{storeWord, lookRefusal, indexOf, placeWords, lookupWord};
+ghost use Rattle.capi.specs.Store.{storeWord, lookRefusal, placeWords, lookupWord};
 
 // ---- Checksums
 
@@ -456,33 +456,12 @@ pub extern "C" fn sp_store_is_sound(store: &[u8]) -> u32
     flag(image::is_sound(store))
 }
 
-// The slot of a key; the number of used slots if there is none.
-fn index_of(store: &[u8], key: &[u8]) -> usize
-    ensures is { λ r. ⌜ r ≡ indexOf (now (key .entry)) (entriesOf (now (store .entry))) ⌝ }
-    ensures small { λ r. ⌜ r < 65536 ⌝ }
-{
-    let used = image::used_count(store);
-    let mut i: usize = 0;
-    while i < used {
-        if wire::same(key, image::slot_key(image::slot(store, i))) {
-            return i;
-        }
-        i += 1;
-    }
-    i
-}
-
-// Where the value of a key stands in the store, and its length.
-fn place_of(store: &[u8], key: &[u8], what: Looked) -> [u64; 2]
-    requires { ⌜ findingOf what ≡ lookupAnswer (now store) (now key) ⌝ }
-    ensures { λ r. ⌜ r ≡ placeWords (now (store .entry)) (now (key .entry)) (findingOf what) ⌝ }
+// Where the value stands in the store, and its length; 0 and 0 where there is none.
+fn place_of(what: Looked) -> [u64; 2]
+    ensures { λ r. ⌜ r ≡ placeWords (findingOf what) ⌝ }
 {
     match what {
-        Looked::Value => {
-            let at = 96 + 596 * (index_of(store, key) as u64);
-            let held = store::value_unchecked(store, key);
-            [at, held.len() as u64]
-        }
+        Looked::Value { at, len } => [at as u64, len as u64],
         Looked::Deleted => [0; 2],
         Looked::Never => [0; 2],
         Looked::Refused(_) => [0; 2],
@@ -493,7 +472,7 @@ fn place_of(store: &[u8], key: &[u8], what: Looked) -> [u64; 2]
 #[no_mangle]
 pub extern "C" fn sp_store_lookup(store: &[u8], key: &[u8], place: &mut [u64]) -> u32
     ensures told { λ r. ⌜ r ≡ lookupWord (now (store .entry)) (now (key .entry)) (now (place .entry)) ⌝ }
-    ensures left { λ _. ⌜ now (place .exit) ≡ afterWrite (lookRefusal (lookupAnswer (now (store .entry)) (now (key .entry)))) (placeWords (now (store .entry)) (now (key .entry)) (lookupAnswer (now (store .entry)) (now (key .entry)))) (now (place .entry)) ⌝ }
+    ensures left { λ _. ⌜ now (place .exit) ≡ afterWrite (lookRefusal (lookupAnswer (now (store .entry)) (now (key .entry)))) (placeWords (lookupAnswer (now (store .entry)) (now (key .entry)))) (now (place .entry)) ⌝ }
 {
     let what = store::lookup(store, key);
     let refusal = looked(what);
@@ -503,7 +482,7 @@ pub extern "C" fn sp_store_lookup(store: &[u8], key: &[u8], place: &mut [u64]) -
     if place.len() < 2 {
         return refused(Refusal::NoRoom);
     }
-    let words = place_of(store, key, what);
+    let words = place_of(what);
     put_front(place, &words);
     found(what)
 }

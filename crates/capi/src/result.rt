@@ -149,7 +149,7 @@ pub fn looked(answer: Looked) -> u32
     ensures { λ r. ⌜ r ≡ packed (lookRefusal (findingOf answer)) 0 ⌝ }
 {
     match answer {
-        Looked::Value => 0,
+        Looked::Value { at: _, len: _ } => 0,
         Looked::Deleted => 0,
         Looked::Never => 0,
         Looked::Refused(why) => refused(why),
@@ -161,7 +161,7 @@ pub fn found(answer: Looked) -> u32
     ensures { λ r. ⌜ r ≡ lookNumber (findingOf answer) ⌝ }
 {
     match answer {
-        Looked::Value => 0,
+        Looked::Value { at: _, len: _ } => 0,
         Looked::Deleted => 1,
         Looked::Never => 2,
         Looked::Refused(_) => 0,

@@ -18,14 +18,14 @@ use Rattle.image.specs.Layout.{mostSlots}
 use Rattle.image.specs.Image.{image, slotsOf, entriesOf, sound}
 use Rattle.image.proofs.SlotLaws.{Fit, fits}
 use Rattle.image.proofs.ImageLaws.{sound-image, slots-of-image, entries-of-image}
-use Rattle.store.specs.Held.{_∈_, find}
+use Rattle.store.specs.Held.{_∈_, find, indexOf}
 use Rattle.store.specs.Answer.{stored, replaced, kept, isRefused}
 use Rattle.store.specs.Create.{freshStore}
-use Rattle.store.specs.Lookup.{findingFor, valueFor, lookupAnswer, valuePart, value, deleted, never}
+use Rattle.store.specs.Lookup.{findingFor, valueFor, lookupAnswer, valuePart, never}
 use Rattle.store.specs.Offer.{told, offerAnswer, afterOffer}
 use Rattle.store.specs.Merge.{mergeAnswer, afterMerge}
 use Rattle.store.specs.Unchecked.{isHeld}
-use Rattle.store.specs.Kept.{Representable}
+use Rattle.store.specs.Meaning.{Representable, Finds}
 use Rattle.history.specs.Book.{Call, offer, merge, hasKey, keyCount, beatsAll, Greatest, bookOffer, bookOffered, bookMerge, bookMerged, Book, delivered, bookAnswer, bookAfter, runBook, bookAnswers, offers, InRange}
 use Rattle.history.specs.History.{Stores, store, answer, after, run, answers, fresh, noneDelivered, setAfter, DeliveryHistory, EveryDeliveryHistory}
 use Rattle.store.proofs.HeldLaws.{beats-stamp, none-of}
@@ -95,17 +95,23 @@ module _ (C n : ℕ) (lo : 1 ≤ C) (hi : C ≤ mostSlots) (all : List Entry)
     ])
 
     -- what is looked up
-    look-is : (k : List ℕ) → badKey k ≡ false → (lookupAnswer bytes k ≡ findingFor (best k ds)) × (valuePart bytes k ≡ valueFor (best k ds))
+    look-is : (k : List ℕ) → badKey k ≡ false
+        → (lookupAnswer bytes k ≡ findingFor (indexOf k (entriesOf bytes)) (best k ds)) × (valuePart bytes k ≡ valueFor (best k ds))
     unfolding lookupAnswer valuePart
-    look-is k b = (rw (is-sound, b, entries-are, find-held k ds), rw (is-sound, b, entries-are, find-held k ds))
+    look-is k b =
+        let f : find k (entriesOf bytes) ≡ best k ds = ap (find k) entries-are ∙ find-held k ds in
+        (rw (is-sound, b, f), rw (is-sound, b, f))
 
-    look-greatest : (e : Entry) → Greatest ds e → (lookupAnswer bytes (e .key) ≡ cond (eqb (e .flag) 1) deleted value) × (valuePart bytes (e .key) ≡ e .value)
-    unfolding findingFor valueFor
+    look-greatest : (e : Entry) → Greatest ds e → Finds bytes e
+    unfolding valueFor
     look-greatest e g =
         let ok = accepted e (a .acceptable e (g .0)) in
         let l = look-is (e .key) (ok .good-key) in
         let b = greatest-best ds e consistent g in
-        (l .0 ∙ rw b, l .1 ∙ rw b (elim (test (eqb (e .flag) 1)) [ inl p ↦ rw p (sym (ok .tombstone (eqb-true _ _ p))) | inr p ↦ rw p ]))
+        record {
+          told = l .0 ∙ rw b;
+          part = l .1 ∙ rw b (elim (test (eqb (e .flag) 1)) [ inl p ↦ rw p (sym (ok .tombstone (eqb-true _ _ p))) | inr p ↦ rw p ]);
+        }
 
     look-unseen : (k : List ℕ) → badKey k ≡ false → hasKey k ds ≡ false → (lookupAnswer bytes k ≡ never) × (valuePart bytes k ≡ [])
     unfolding findingFor valueFor

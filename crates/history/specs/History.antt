@@ -5,10 +5,9 @@
 use Prim.Native.Nat.{ℕ, _<_, _≤_}
 use mathlib.Core.Path.{_≡_}
 use mathlib.Core.Logic.{_↔_}
-use mathlib.Core.Bool.{true, false, cond}
+use mathlib.Core.Bool.{true, false}
 use mathlib.Core.List.{List, [], _∷_, _++_}
 use lib.ListN.{getD, set, replicate}
-use lib.Dec.{eqb}
 use Rattle.entry.specs.Key.{badKey}
 use Rattle.entry.specs.Order.{stampBelow}
 use Rattle.entry.specs.Entry.{Entry, Acceptable, Consistent}
@@ -17,10 +16,10 @@ use Rattle.image.specs.Image.{image, entriesOf, ascending}
 use Rattle.store.specs.Held.{_∈_}
 use Rattle.store.specs.Answer.{Answer, isRefused}
 use Rattle.store.specs.Create.{freshStore}
-use Rattle.store.specs.Lookup.{lookupAnswer, valuePart, value, deleted, never}
+use Rattle.store.specs.Lookup.{lookupAnswer, valuePart, never}
 use Rattle.store.specs.Offer.{offerAnswer, afterOffer}
 use Rattle.store.specs.Merge.{mergeAnswer, afterMerge}
-use Rattle.store.specs.Kept.{Representable}
+use Rattle.store.specs.Meaning.{Representable, Finds}
 use Rattle.history.specs.Book.{Call, offer, merge, Book, delivered, hasKey, keyCount, Greatest, runBook, bookAnswers, offers, InRange}
 
 -- the bytes of each store
@@ -83,8 +82,7 @@ pub record DeliveryHistory (C n : ℕ) (calls : List Call) : Type 0 where
       → (i : ℕ) → i < n → (h : Entry) → h ∈ entriesOf (storeAfter C n before i)
       → (g : Entry) × g ∈ entriesOf (store (after (run (fresh C n) before) c) i) × (g .key ≡ h .key) × (stampBelow (g .stamp) (h .stamp) ≡ false)
   -- a lookup then gives the value of the greatest entry of a key, or says that it is deleted
-  pub looked : (i : ℕ) → i < n → (e : Entry) → Greatest (setAfter C n calls i) e
-      → (lookupAnswer (storeAfter C n calls i) (e .key) ≡ cond (eqb (e .flag) 1) deleted value) × (valuePart (storeAfter C n calls i) (e .key) ≡ e .value)
+  pub looked : (i : ℕ) → i < n → (e : Entry) → Greatest (setAfter C n calls i) e → Finds (storeAfter C n calls i) e
   -- and says of a key that was never delivered that it was never seen
   pub unseen : (i : ℕ) → i < n → (k : List ℕ) → badKey k ≡ false → hasKey k (setAfter C n calls i) ≡ false
       → (lookupAnswer (storeAfter C n calls i) k ≡ never) × (valuePart (storeAfter C n calls i) k ≡ [])

@@ -43,7 +43,7 @@ ghost use Rattle.checksum.specs.Table.{crcTable};
 ghost use Rattle.entry.specs.Entry.{entryOf};
 ghost use Rattle.image.specs.Layout.{headerWidth, keyAt};
 ghost use Rattle.image.specs.Image.{slotHead, keyIn, flagIn, valueIn, stampIn, slotsOf, usedOf, entriesOf, ascending, sound};
-ghost use Rattle.image.specs.Slot.{slotAt, slotWith, headerWith};
+ghost use Rattle.image.specs.Slot.{slotAt, hasSlot, slotWith, headerWith};
 ghost use Rattle.image.specs.Check.{Lengths, sealed, slotSound, slotsSound, shaped};
 
 // How many slots a store says it has.
@@ -74,6 +74,13 @@ pub fn slot(store: &[u8], i: usize) -> &[u8]
         return &store[n..n];
     }
     part(store, HEADER_WIDTH + SLOT_WIDTH * i, SLOT_WIDTH)
+}
+
+// Whether the bytes of a store have slot i whole.
+pub fn has_slot(store: &[u8], i: usize) -> bool
+    ensures { λ r. ⌜ r ≡ hasSlot i (now (store .entry)) ⌝ }
+{
+    slot(store, i).len() == SLOT_WIDTH
 }
 
 // The key that a slot holds.

@@ -31,7 +31,7 @@ use Rattle.store.specs.Offer.{told, offerAnswer, afterOffer}
 use Rattle.store.specs.Lookup.{Finding, findingFor, valueFor, lookupAnswer, valuePart}
 use Rattle.store.specs.Lookup as lookup
 use Rattle.store.proofs.HeldLaws.{Ascending, beats-irrefl, beats-stamp, better, find-put, find-mem, find-some}
-use Rattle.store.specs.Kept.{Representable, Keeps}
+use Rattle.store.specs.Meaning.{Representable, Keeps}
 use Rattle.store.proofs.OnSound.{ordered, unchecked-on-sound}
 use Rattle.store.proofs.Keeping.{OfferTaken, offer-taken, offer-keeps}
 use Rattle.node.specs.Handler.{Served, done, refused, offerRefusal, offered, writeLocally, replicate, gets, serve, serveFrame, settle, handled}
@@ -241,7 +241,7 @@ Stays s c (refused n) = Unit {0}
 
 pub gets-stays : (s : List ℕ) (c : Clock) (v : List ℕ) (x : Finding) → Stays s c (gets s c v x)
 unfolding gets
-gets-stays s c v lookup.value = (refl, refl)
+gets-stays s c v (lookup.value at len) = (refl, refl)
 gets-stays s c v lookup.deleted = (refl, refl)
 gets-stays s c v lookup.never = (refl, refl)
 gets-stays s c v (lookup.refused n) = tt

@@ -29,10 +29,12 @@ use Rattle.image.proofs.ImageLaws.{sound-is, sound-fits}
 use Rattle.store.specs.Held.{find}
 use Rattle.store.specs.Lookup.{findingOf, valueFor, lookupAnswer, valuePart}
 use Rattle.store.specs.declared.Looked.{Looked}
-use Rattle.store.specs.Unchecked.{lookupUnchecked, valueUnchecked}
+use Rattle.store.specs.declared.Looked.the-variants as looked
+use Rattle.store.specs.Unchecked.{lookupUnchecked}
 use Rattle.store.proofs.HeldLaws.{find-some}
 use Rattle.store.proofs.Members.{all-fit}
 use Rattle.store.proofs.OnSound.{unchecked-on-sound}
+use Rattle.store.proofs.Looking.{value-stands}
 use Rattle.node.specs.Handler.{refused, offered, writeLocally, replicate, gets, serve, serveOutcome}
 use Rattle.node.specs.Request.{kindOf}
 
@@ -67,8 +69,9 @@ module _ (s : List ℕ) (h : sound s ≡ true) (key : List ℕ) where
   pub looked-as : (c : Clock) (l k : Looked) → findingOf l ≡ lookupUnchecked s key → l ≡ k → gets s c (valuePart s key) (findingOf k) ≡ gets s c (valuePart s key) (lookupAnswer s key)
   looked-as c l k told e = ap (gets s c (valuePart s key)) (sym (ap findingOf e) ∙ told ∙ unchecked-on-sound s h .lookup key)
 
-  pub value-is : (v : List ℕ) → v ≡ valueUnchecked s key → v ≡ valuePart s key
-  value-is v e = e ∙ unchecked-on-sound s h .value key
+  -- the place that was given lies in the store, and the value stands there
+  pub value-at : (l : Looked) (at len : ℕ) → findingOf l ≡ lookupUnchecked s key → l ≡ looked.Value at len → (at + len ≤ length s) × (field at len s ≡ valuePart s key)
+  value-at l at len told e = value-stands s key at len (sym (unchecked-on-sound s h .lookup key) ∙ sym told ∙ ap findingOf e)
 
   found-fits : (o : Option Entry) → find key (entriesOf s) ≡ o → length (valueFor o) ≤ 512
   unfolding valueFor

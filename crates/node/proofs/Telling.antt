@@ -26,7 +26,7 @@ use Rattle.frame.specs.Reading as reading
 use Rattle.frame.proofs.Bodies.{value-taken, err-taken}
 use Rattle.frame.proofs.RoundTrips.{frame-at-most-600, written-reads-back}
 use Rattle.image.specs.Image.{slotsOf, entriesOf, sound}
-use Rattle.store.specs.Held.{put, find}
+use Rattle.store.specs.Held.{put, find, indexOf}
 use Rattle.store.specs.Answer.{Answer}
 use Rattle.store.specs.Answer as answer
 use Rattle.store.specs.Offer.{told, offerAnswer}
@@ -79,20 +79,20 @@ offer-numbered s e = either AnswerNumbered (not (sound s)) _ _ (omega arith) (el
 ])
 
 abbrev FindingNumbered : Finding → Type 0
-FindingNumbered lookup.value = Unit {0}
+FindingNumbered (lookup.value at len) = Unit {0}
 FindingNumbered lookup.deleted = Unit {0}
 FindingNumbered lookup.never = Unit {0}
 FindingNumbered (lookup.refused n) = Numbered n
 
-finding-numbered : (o : Option Entry) → FindingNumbered (findingFor o)
+finding-numbered : (i : ℕ) (o : Option Entry) → FindingNumbered (findingFor i o)
 unfolding findingFor
-finding-numbered none = tt
-finding-numbered (some h) = either FindingNumbered (eqb (h .flag) 1) _ _ tt tt
+finding-numbered i none = tt
+finding-numbered i (some h) = either FindingNumbered (eqb (h .flag) 1) _ _ tt tt
 
 lookup-numbered : (s k : List ℕ) → FindingNumbered (lookupAnswer s k)
 unfolding lookupAnswer
 lookup-numbered s k = either FindingNumbered (not (sound s)) _ _ (omega arith)
-    (either FindingNumbered (badKey k) _ _ (omega arith) (finding-numbered (find k (entriesOf s))))
+    (either FindingNumbered (badKey k) _ _ (omega arith) (finding-numbered (indexOf k (entriesOf s)) (find k (entriesOf s))))
 
 -- ---- the reader's refusals
 abbrev OutcomeNumbered : Outcome → Type 0
@@ -156,7 +156,7 @@ module _ (s : List ℕ) where
 
   gets-tellable : (c : Clock) (v : List ℕ) (x : Finding) → length v ≤ 512 → FindingNumbered x → Tellable (gets s c v x)
   unfolding gets
-  gets-tellable c v lookup.value l n = (value-taken v l, tt)
+  gets-tellable c v (lookup.value at len) l n = (value-taken v l, tt)
   gets-tellable c v lookup.deleted l n = (not-found-taken, tt)
   gets-tellable c v lookup.never l n = (not-found-taken, tt)
   gets-tellable c v (lookup.refused j) l n = n

@@ -53,7 +53,7 @@ replicate store e (clock.refused n) = refused n
 -- ---- reading
 -- GET replies VALUE, or NOTFOUND for DELETED and NEVER, and moves no clock
 unfoldable pub gets : List ℕ → Clock → List ℕ → Finding → Served
-gets store c v lookup.value = done store c (message.value v)
+gets store c v (lookup.value at len) = done store c (message.value v)
 gets store c v lookup.deleted = done store c message.notFound
 gets store c v lookup.never = done store c message.notFound
 gets store c v (lookup.refused n) = refused n

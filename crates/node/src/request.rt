@@ -18,7 +18,6 @@ use store::Looked;
 use store::Offered;
 use store::lookup_unchecked;
 use store::offer_unchecked;
-use store::value_unchecked;
 ghost use mathlib.Core.Path.{_≡_};
 ghost use mathlib.Core.Bool.{cond};
 ghost use Prim.Native.Nat.{_≤_};
@@ -99,7 +98,10 @@ fn get(store: &[u8], clock: Clock, key: &[u8], reply: &mut [u8]) -> Handled
 {
     let looked = lookup_unchecked(store, key);
     match looked {
-        Looked::Value => give_value(clock, value_unchecked(store, key), reply),
+        Looked::Value { at, len } => {
+            let end = at + len;
+            give_value(clock, &store[at..end], reply)
+        }
         Looked::Deleted => give_nothing(clock, reply),
         Looked::Never => give_nothing(clock, reply),
         Looked::Refused(refusal) => refuse(clock, refusal, reply),

@@ -20,10 +20,10 @@ use Rattle.image.proofs.ImageLaws.{sound-is, sound-image, slots-of-image, entri
 use Rattle.store.specs.Held.{_∈_, put, putAll, find}
 use Rattle.store.specs.Answer.{Answer, stored, replaced, kept, isRefused}
 use Rattle.store.specs.Create.{freshStore}
-use Rattle.store.specs.Lookup.{findingFor, valueFor, lookupAnswer, valuePart, value, deleted}
+use Rattle.store.specs.Lookup.{valueFor, lookupAnswer, valuePart}
 use Rattle.store.specs.Offer.{told, offerAnswer, afterOffer}
 use Rattle.store.specs.Merge.{mergeAnswer, afterMerge}
-use Rattle.store.specs.Kept.{Representable, Keeps, FreshKeeps, OfferKeeps, MergeKeeps, KeptUnchanged, FoundAfterOffer}
+use Rattle.store.specs.Meaning.{Representable, Keeps, FreshKeeps, OfferKeeps, MergeKeeps, KeptUnchanged, Finds, FoundAfterOffer}
 use Rattle.store.proofs.HeldLaws.{mem-put, putAll-ascending, better, find-put}
 use Rattle.store.proofs.Seeking.{seen-find, put-seen}
 use Rattle.store.proofs.OnSound.{ordered, image-keeps, fits-held, accepts-held, put-keeps}
@@ -128,15 +128,18 @@ told-new e (some h) p = elim (test (beats e h)) [
 ]
 
 found : (s : List ℕ) (e : Entry) → Representable e → isRefused (offerAnswer s e) ≡ false → (told e (find (e .key) (entriesOf s)) ≡ stored) ⊎ (told e (find (e .key) (entriesOf s)) ≡ replaced)
-    → (lookupAnswer (afterOffer s e) (e .key) ≡ cond (eqb (e .flag) 1) deleted value) × (valuePart (afterOffer s e) (e .key) ≡ e .value)
-unfolding lookupAnswer valuePart findingFor valueFor
+    → Finds (afterOffer s e) e
+unfolding lookupAnswer valuePart valueFor
 found s e r n w =
     let t = offer-taken s e n in
     let k = offer-keeps s e (t .sound) r in
     let ok = accepted e (t .ok) in
     let held : entriesOf (afterOffer s e) ≡ put e (entriesOf s) = k .holds ∙ rw n in
     let f : find (e .key) (put e (entriesOf s)) ≡ some e = find-put (e .key) e (entriesOf s) (ordered s (t .sound)) ∙ rw (sameBytes-refl (e .key)) (told-new e _ w) in
-    (rw (k .sound, ok .good-key, held, f), rw (k .sound, ok .good-key, held, f) (elim (test (eqb (e .flag) 1)) [ inl p ↦ rw p (sym (ok .tombstone (eqb-true _ _ p))) | inr p ↦ rw p ]))
+    record {
+      told = rw (k .sound, ok .good-key, held, f);
+      part = rw (k .sound, ok .good-key, held, f) (elim (test (eqb (e .flag) 1)) [ inl p ↦ rw p (sym (ok .tombstone (eqb-true _ _ p))) | inr p ↦ rw p ]);
+    }
 
 pub found-after-offer : FoundAfterOffer
 unfolding isRefused

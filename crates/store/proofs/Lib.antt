@@ -5,4 +5,5 @@ pub mod Shifts
 pub mod Splices
 pub mod OnSound
 pub mod Keeping
+pub mod Looking
 pub mod Ways

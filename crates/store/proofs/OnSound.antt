@@ -14,15 +14,15 @@ use Rattle.entry.specs.Entry.{Entry, Acceptable, beats, refusalOf}
 use Rattle.image.specs.Image.{image, slotsOf, usedOf, entriesOf, sound}
 use Rattle.image.proofs.SlotLaws.{Fit}
 use Rattle.image.proofs.ImageLaws.{Sound, sound-is, sound-image, sound-fits, slots-of-image, entries-of-image, used-is}
-use Rattle.store.specs.Held.{_∈_, put, putAll, find}
+use Rattle.store.specs.Held.{_∈_, put, putAll, find, indexOf}
 use Rattle.store.specs.Answer.{refused, isRefused}
-use Rattle.store.specs.Lookup.{lookupAnswer, valuePart}
+use Rattle.store.specs.Lookup.{findingFor, lookupAnswer}
 use Rattle.store.specs.Offer.{told, offerAnswer, afterOffer}
-use Rattle.store.specs.Kept.{Keeps}
-use Rattle.store.specs.Unchecked.{seek, seen, isHeld, lookupUnchecked, valueUnchecked, placeAnswer, afterPlace, placedAnswer, afterPlaced, afterAll, offerUnchecked, afterOfferUnchecked, UncheckedOnSound}
+use Rattle.store.specs.Meaning.{Keeps}
+use Rattle.store.specs.Unchecked.{seek, seen, isHeld, lookupUnchecked, placeAnswer, afterPlace, placedAnswer, afterPlaced, afterAll, offerUnchecked, afterOfferUnchecked, UncheckedOnSound}
 use Rattle.store.proofs.HeldLaws.{Ascending, mem-put, put-ascending}
 use Rattle.store.proofs.Members.{accept-all, all-accepted, fit-all, all-fit, ascend, ascended}
-use Rattle.store.proofs.Seeking.{put-unseen, seen-there, put-seen, seen-find, put-length, put-all-grows}
+use Rattle.store.proofs.Seeking.{put-unseen, seen-there, seek-index, put-seen, seen-find, put-length, put-all-grows}
 use Rattle.store.proofs.Splices.{replaced as replaced-image, inserted as inserted-image}
 
 -- full by count is full by keys
@@ -76,16 +76,24 @@ module _ (s : List ℕ) (h : sound s ≡ true) where
         let b = by-sight (seen (e .key) es) refl in
         (b .0 ∙ ap (λ (o : Option Entry). cond over (refused 6) (told e o)) (seen-find (e .key) es ordered), b .1)
 
+-- what is said of a key by its place is what is said by its index
+sights : (k : List ℕ) (es : List Entry) → Ascending es → findingFor (seek k es) (seen k es) ≡ findingFor (indexOf k es) (find k es)
+unfolding findingFor
+sights k es a = go (seen k es) refl ∙ ap (findingFor (indexOf k es)) (seen-find k es a)
+  where
+    go : (o : Option Entry) → seen k es ≡ o → findingFor (seek k es) (seen k es) ≡ findingFor (indexOf k es) (seen k es)
+    go none q = rw q
+    go (some g) q = ap (λ (i : ℕ). findingFor i (seen k es)) (seek-index k es g q)
+
 told-not-refused : (e : Entry) (o : Option Entry) → isRefused (told e o) ≡ false
 unfolding isRefused told
 told-not-refused e none = refl
 told-not-refused e (some g) = elim (test (beats e g)) [ inl p ↦ rw p | inr p ↦ rw p ]
 
 pub unchecked-on-sound : UncheckedOnSound
-unfolding lookupUnchecked lookupAnswer valueUnchecked valuePart offerUnchecked offerAnswer afterOfferUnchecked afterOffer isRefused
+unfolding lookupUnchecked lookupAnswer offerUnchecked offerAnswer afterOfferUnchecked afterOffer isRefused
 unchecked-on-sound s h = record {
-  lookup = λ k. rw (h, seen-find k (entriesOf s) (ordered s h));
-  value = λ k. rw (h, seen-find k (entriesOf s) (ordered s h));
+  lookup = λ k. rw (h, sights k (entriesOf s) (ordered s h));
   offer = λ e. rw (h, placed s h e .0);
   after = λ e. rw (h, placed s h e .1) (elim (test (eqb (refusalOf e) 0)) [
     | inl p ↦ rw p (elim (test (ltb (slotsOf s) (length (put e (entriesOf s))))) [ inl q ↦ rw q | inr q ↦ rw (q, told-not-refused e (find (e .key) (entriesOf s))) ])

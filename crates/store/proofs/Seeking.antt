@@ -15,7 +15,7 @@ use Rattle.wire.proofs.Tests.{test}
 use Rattle.entry.specs.Order.{keyBelow}
 use Rattle.entry.specs.Entry.{Entry, beats}
 use Rattle.image.proofs.Compared.{came-below, came-same, came-above}
-use Rattle.store.specs.Held.{put, putAll, find}
+use Rattle.store.specs.Held.{put, putAll, find, indexOf}
 use Rattle.store.specs.Unchecked.{seek, seen, isHeld, Placed, countNew}
 use Rattle.store.proofs.HeldLaws.{Above, Ascending, above-trans, above-cons, above-differ, put-ascending, find-none, find-put, length-put}
 
@@ -27,25 +27,25 @@ pub record Seeking (k : List ℕ) (es : List Entry) (i : ℕ) : Type 0 where
 pub seeking-none : (k : List ℕ) (es : List Entry) → Seeking k es 0
 seeking-none k es = record { place = omega arith; known = refl }
 
-module _ (k : List ℕ) (es : List Entry) (i : ℕ) (s : Seeking k es i) where
+module _ (k : List ℕ) (es : List Entry) (i : ℕ) (s : Seeking k es i) (small : i < 65536) where
   pub seek-end : length es ≤ i → Placed k es i false
   unfolding seek seen isHeld
   seek-end h =
       let e = drop-of-length-le es h in
-      record { place = sym (omega (arith, rw e at (s .place))); known = ap isHeld (sym (ap (seen k) e) ∙ s .known) }
+      record { place = sym (omega (arith, rw e at (s .place))); known = ap isHeld (sym (ap (seen k) e) ∙ s .known); small = small }
 
   module _ (h : Entry) (split : drop i es ≡ h ∷ drop (suc i) es) (o : Comparison) (oe : o ≡ comparison k (h .key)) where
     pub seek-below : o ≡ order.Below → Placed k es i false
     unfolding seek seen isHeld
     seek-below b =
         let p = came-below k (h .key) (sym oe ∙ b) in
-        record { place = sym (omega (arith, rw (split, p) at (s .place))); known = ap isHeld (rw (split, p) at (s .known)) }
+        record { place = sym (omega (arith, rw (split, p) at (s .place))); known = ap isHeld (rw (split, p) at (s .known)); small = small }
 
     pub seek-same : o ≡ order.Same → Placed k es i true
     unfolding seek seen isHeld
     seek-same b =
         let p = came-same k (h .key) (sym oe ∙ b) in
-        record { place = sym (omega (arith, rw (split, p .0, p .1) at (s .place))); known = ap isHeld (rw (split, p .0, p .1) at (s .known)) }
+        record { place = sym (omega (arith, rw (split, p .0, p .1) at (s .place))); known = ap isHeld (rw (split, p .0, p .1) at (s .known)); small = small }
 
     pub seek-above : o ≡ order.Above → Seeking k es (i + 1)
     unfolding seek seen
@@ -86,6 +86,18 @@ seen-there k (h ∷ hs) g n = elim (test (keyBelow k (h .key))) [
     | inr q ↦
         let r = seen-there k hs g (rw (p, q) at n) in
         record { there = rw (p, q) (r .there); within = rw (p, q) (omega (arith, r .within)) }
+  ]
+]
+
+-- and it is the first of its key
+pub seek-index : (k : List ℕ) (es : List Entry) (g : Entry) → seen k es ≡ some g → seek k es ≡ indexOf k es
+unfolding seek seen indexOf
+seek-index k [] g n = absurd (Option·none-ne-some g n)
+seek-index k (h ∷ hs) g n = elim (test (keyBelow k (h .key))) [
+  | inl p ↦ absurd (Option·none-ne-some g (rw p at n))
+  | inr p ↦ elim (test (sameBytes k (h .key))) [
+    | inl q ↦ rw (p, q)
+    | inr q ↦ rw (p, q) (ap suc (seek-index k hs g (rw (p, q) at n)))
   ]
 ]
 

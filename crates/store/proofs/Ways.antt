@@ -18,18 +18,18 @@ use Rattle.entry.specs.Acceptance.{refusalNumber}
 use Rattle.entry.specs.Key.{badKey}
 use Rattle.entry.specs.Entry.{Entry, beats, refusalOf}
 use Rattle.entry.proofs.Numbers.{number-not-0}
-use Rattle.image.specs.Layout.{slotWidth, mostSlots, slotStart}
+use Rattle.image.specs.Layout.{valueStart, slotWidth, mostSlots, slotStart}
 use Rattle.image.specs.Image.{image, header, slots, slotEntry, flagIn, valueIn, slotsOf, usedOf, entriesOf, sound}
 use Rattle.image.specs.Slot.{slotAt}
 use Rattle.image.proofs.ImageLaws.{entry-at, used-is}
 use Rattle.store.specs.Held.{putAll}
 use Rattle.store.specs.Answer.{Answer, stored, replaced, kept, merged, refused, isRefused}
 use Rattle.store.specs.Create.{createRefusal, freshStore, afterCreate}
-use Rattle.store.specs.Lookup.{value, deleted, never, findingFor, valueFor, lookupAnswer, valuePart}
+use Rattle.store.specs.Lookup.{value, deleted, never, findingFor, lookupAnswer}
 use Rattle.store.specs.Lookup as looking
 use Rattle.store.specs.Offer.{offerAnswer, afterOffer}
 use Rattle.store.specs.Merge.{mergeAnswer, afterMerge}
-use Rattle.store.specs.Unchecked.{seek, seen, isHeld, Placed, lookupUnchecked, valueUnchecked, replaceAt, insertAt, placeAnswer, afterPlace, placedAnswer, afterPlaced, afterAll, countNew, offerUnchecked, afterOfferUnchecked}
+use Rattle.store.specs.Unchecked.{seek, seen, isHeld, Placed, lookupUnchecked, replaceAt, insertAt, placeAnswer, afterPlace, placedAnswer, afterPlaced, afterAll, countNew, offerUnchecked, afterOfferUnchecked}
 use Rattle.store.proofs.HeldLaws.{none-of, some-of}
 use Rattle.store.proofs.Seeking.{seen-there, length-put-all}
 use Rattle.store.proofs.OnSound.{ordered, all-placed, accepts-held, fits-held}
@@ -83,33 +83,29 @@ module _ (s k : List ℕ) (at : ℕ) (held : Bool) (p : Placed k (entriesOf s) a
 
 -- ---- a key looked up
 module _ (s k : List ℕ) where
-  pub look-bad : badKey k ≡ true → (looking.refused 1 ≡ lookupUnchecked s k) × ([] ≡ valueUnchecked s k)
-  unfolding lookupUnchecked valueUnchecked
-  look-bad b = (sym (rw b), sym (rw b))
+  pub look-bad : badKey k ≡ true → looking.refused 1 ≡ lookupUnchecked s k
+  unfolding lookupUnchecked
+  look-bad b = sym (rw b)
 
   module _ (ok : badKey k ≡ false) (at : ℕ) (held : Bool) (p : Placed k (entriesOf s) at held) where
-    pub look-never : held ≡ false → (never ≡ lookupUnchecked s k) × ([] ≡ valueUnchecked s k)
-    unfolding lookupUnchecked valueUnchecked findingFor valueFor
-    look-never f = let q = not-seen s k at held p f in (sym (rw (ok, q)), sym (rw (ok, q)))
+    pub look-never : held ≡ false → never ≡ lookupUnchecked s k
+    unfolding lookupUnchecked findingFor
+    look-never f = let q = not-seen s k at held p f in sym (rw (ok, q))
 
     module _ (t : held ≡ true) (flag : ℕ) (fe : flag ≡ flagIn (slotAt at s)) where
-      pub look-deleted : flag ≡ 1 → (deleted ≡ lookupUnchecked s k) × ([] ≡ valueUnchecked s k)
-      unfolding lookupUnchecked valueUnchecked findingFor valueFor slotEntry
-      look-deleted f =
-          let q = is-seen s k at held p t in
-          let e = eq-eqb (flagIn (slotAt at s)) 1 (sym fe ∙ f) in
-          (sym (rw (ok, q, e)), sym (rw (ok, q, e)))
+      pub look-deleted : flag ≡ 1 → deleted ≡ lookupUnchecked s k
+      unfolding lookupUnchecked findingFor slotEntry
+      look-deleted f = sym (rw (ok, is-seen s k at held p t, eq-eqb (flagIn (slotAt at s)) 1 (sym fe ∙ f)))
 
-      pub look-value : (flag ≡ 1 → ⊥) → (value ≡ lookupUnchecked s k) × (valueIn (slotAt at s) ≡ valueUnchecked s k)
-      unfolding lookupUnchecked valueUnchecked findingFor valueFor slotEntry
-      look-value f =
-          let q = is-seen s k at held p t in
+      pub look-value : (flag ≡ 1 → ⊥) → (v : List ℕ) → v ≡ valueIn (slotAt at s) → value (valueStart at) (length v) ≡ lookupUnchecked s k
+      unfolding lookupUnchecked findingFor slotEntry
+      look-value f v ve =
           let e = ne-eqb (flagIn (slotAt at s)) 1 (λ x. f (fe ∙ x)) in
-          (sym (rw (ok, q, e)), sym (rw (ok, q, e)))
+          ap₂ (λ (i : ℕ) (l : List ℕ). value (valueStart i) (length l)) (p .place) ve ∙ sym (rw (ok, is-seen s k at held p t, e))
 
-  pub look-5 : sound s ≡ false → (looking.refused 5 ≡ lookupAnswer s k) × ([] ≡ valuePart s k)
-  unfolding lookupAnswer valuePart
-  look-5 h = (sym (rw h), sym (rw h))
+  pub look-5 : sound s ≡ false → looking.refused 5 ≡ lookupAnswer s k
+  unfolding lookupAnswer
+  look-5 h = sym (rw h)
 
 -- ---- an entry placed
 module _ (s : List ℕ) (e : Entry) (at : ℕ) (held : Bool) (p : Placed (e .key) (entriesOf s) at held) where

@@ -2,7 +2,7 @@
 use mathlib.Core.Bool.{cond}
 use mathlib.Core.List.{List, [], _∷_, List·Memᴰ}
 use mathlib.Core.Option.{Option, none, some}
-use Prim.Native.Nat.{ℕ}
+use Prim.Native.Nat.{ℕ, zero, suc}
 use Rattle.wire.specs.Order.{sameBytes}
 use Rattle.entry.specs.Order.{keyBelow}
 use Rattle.entry.specs.Entry.{Entry, beats}
@@ -28,3 +28,8 @@ putAll (e ∷ es) hs = putAll es (put e hs)
 unfoldable pub find : List ℕ → List Entry → Option Entry
 find k [] = none
 find k (h ∷ hs) = cond (sameBytes k (h .key)) (some h) (find k hs)
+
+-- how many entries stand before the first with a key
+unfoldable pub indexOf : List ℕ → List Entry → ℕ
+indexOf k [] = zero
+indexOf k (h ∷ hs) = cond (sameBytes k (h .key)) zero (suc (indexOf k hs))

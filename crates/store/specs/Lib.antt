@@ -5,4 +5,4 @@ pub mod Lookup
 pub mod Offer
 pub mod Merge
 pub mod Unchecked
-pub mod Kept
+pub mod Meaning

@@ -1,6 +1,6 @@
 -- The calls without the test of soundness, on any bytes. On a sound store they are the calls themselves (`Unchecked`, below).
 use mathlib.Core.Path.{_≡_}
-use Prim.Native.Nat.{ℕ, zero, suc, _+_, _-_, _*_}
+use Prim.Native.Nat.{ℕ, zero, suc, _+_, _-_, _*_, _<_}
 use mathlib.Core.Bool.{Bool, true, false, cond, not, _&&_}
 use mathlib.Core.List.{List, [], _∷_, _++_}
 use mathlib.Core.Option.{Option, none, some}
@@ -15,7 +15,7 @@ use Rattle.entry.specs.Entry.{Entry, beats, refusalOf}
 use Rattle.image.specs.Layout.{usedAt, widthAt, slotWidth, slotStart}
 use Rattle.image.specs.Image.{slotBytes, slotsOf, usedOf, entriesOf, sound}
 use Rattle.store.specs.Answer.{Answer, stored, replaced, kept, refused}
-use Rattle.store.specs.Lookup.{Finding, findingFor, valueFor, lookupAnswer, valuePart}
+use Rattle.store.specs.Lookup.{Finding, findingFor, lookupAnswer}
 use Rattle.store.specs.Lookup as looking
 use Rattle.store.specs.Offer.{offerAnswer, afterOffer}
 
@@ -40,13 +40,11 @@ isHeld (some h) = true
 pub record Placed (k : List ℕ) (es : List Entry) (at : ℕ) (held : Bool) : Type 0 where
   pub place : at ≡ seek k es
   pub known : held ≡ isHeld (seen k es)
+  pub small : at < 65536
 
 -- ---- looking a key up
 unfoldable pub lookupUnchecked : List ℕ → List ℕ → Finding
-lookupUnchecked store key = cond (badKey key) (looking.refused 1) (findingFor (seen key (entriesOf store)))
-
-unfoldable pub valueUnchecked : List ℕ → List ℕ → List ℕ
-valueUnchecked store key = cond (badKey key) [] (valueFor (seen key (entriesOf store)))
+lookupUnchecked store key = cond (badKey key) (looking.refused 1) (findingFor (seek key (entriesOf store)) (seen key (entriesOf store)))
 
 -- ---- bytes written
 
@@ -101,7 +99,6 @@ afterOfferUnchecked s e = cond (not (eqb (refusalOf e) 0)) s (afterPlaced s e)
 -- ---- on a sound store
 pub record Unchecked (s : List ℕ) : Type 0 where
   pub lookup : (k : List ℕ) → lookupUnchecked s k ≡ lookupAnswer s k
-  pub value : (k : List ℕ) → valueUnchecked s k ≡ valuePart s k
   pub offer : (e : Entry) → offerUnchecked s e ≡ offerAnswer s e
   pub after : (e : Entry) → afterOfferUnchecked s e ≡ afterOffer s e
 

@@ -11,6 +11,7 @@ use image::is_sound;
 use image::layout::HEADER_WIDTH;
 use image::layout::MAX_SLOTS;
 use image::layout::SLOT_WIDTH;
+use image::layout::VALUE_AT;
 use image::put_header;
 use image::slot;
 use image::slot_count;
@@ -33,7 +34,7 @@ ghost use Rattle.store.specs.Create.{createdNumber, createRefusal, after
 ghost use Rattle.store.specs.Lookup.{findingOf, lookupAnswer, valuePart};
 ghost use Rattle.store.specs.Offer.{offerAnswer, afterOffer};
 ghost use Rattle.store.specs.Merge.{mergeAnswer, afterMerge};
-ghost use Rattle.store.specs.Unchecked.{Placed, placedAnswer, afterPlaced, afterAll, countNew, lookupUnchecked, valueUnchecked, offerUnchecked, afterOfferUnchecked};
+ghost use Rattle.store.specs.Unchecked.{Placed, placedAnswer, afterPlaced, afterAll, countNew, lookupUnchecked, offerUnchecked, afterOfferUnchecked};
 
 // What became of a buffer that was to be a new store.
 pub enum Created {
@@ -43,7 +44,8 @@ pub enum Created {
 
 // What a store says of a key.
 pub enum Looked {
-    Value,
+    // Its value stands at byte `at` of the store, and has `len` bytes.
+    Value { at: usize, len: usize },
     Deleted,
     Never,
     Refused(Refusal),
@@ -117,12 +119,14 @@ pub fn lookup_unchecked(store: &[u8], key: &[u8]) -> Looked
     if !place.held {
         return Looked::Never;
     }
-    let at = place.at;
-    if slot_flag(slot(store, at)) == TOMBSTONE {
-        Looked::Deleted
-    } else {
-        Looked::Value
+    let i = place.at;
+    let held = slot(store, i);
+    if slot_flag(held) == TOMBSTONE {
+        return Looked::Deleted;
     }
+    let at = HEADER_WIDTH + SLOT_WIDTH * i + VALUE_AT;
+    let len = slot_value(held).len();
+    Looked::Value { at, len }
 }
 
 // What a store says of a key.
@@ -135,33 +139,16 @@ pub fn lookup(store: &[u8], key: &[u8]) -> Looked
     lookup_unchecked(store, key)
 }
 
-// The value of a key in a store that is known to be sound, as a part of the store; empty where there is none.
-pub fn value_unchecked<'a>(store: &'a [u8], key: &[u8]) -> &'a [u8]
-    ensures { λ r. ⌜ now r ≡ valueUnchecked (now (store .entry)) (now (key .entry)) ⌝ }
-{
-    if !is_acceptable_key(key) {
-        return &store[0..0];
-    }
-    let place = seek(store, key);
-    if !place.held {
-        return &store[0..0];
-    }
-    let at = place.at;
-    if slot_flag(slot(store, at)) == TOMBSTONE {
-        return &store[0..0];
-    }
-    slot_value(slot(store, at))
-}
-
 // The value of a key, as a part of the store; empty where there is none.
 pub fn value<'a>(store: &'a [u8], key: &[u8]) -> &'a [u8]
     ensures { λ r. ⌜ now r ≡ valuePart (now (store .entry)) (now (key .entry)) ⌝ }
 {
-    if is_sound(store) {
-        value_unchecked(store, key)
-    } else {
-        &store[0..0]
-    }
+    let looked = lookup(store, key);
+    let Looked::Value { at, len } = looked else {
+        return &store[0..0];
+    };
+    let end = at + len;
+    &store[at..end]
 }
 
 // Whether an entry with this stamp beats the one that a slot holds.

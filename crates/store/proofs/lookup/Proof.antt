@@ -10,7 +10,7 @@ is-sound-requires : tie.Need-is-sound-requires
 is-sound-requires c κs = search needs
 
 returns : tie.Need-returns
-returns c = let a = c .before .before .before .before .args in look-5 (a .store .now) (a .key .now) (sym (c .before .is-sound .ensures) ∙ not-true _ (c .if1 .taken)) .0
+returns c = let a = c .before .before .before .before .args in look-5 (a .store .now) (a .key .now) (sym (c .before .is-sound .ensures) ∙ not-true _ (c .if1 .taken))
 
 lookup-unchecked-requires : tie.Need-lookup-unchecked-requires
 lookup-unchecked-requires c κs = search needs

@@ -1,7 +1,7 @@
 use borrow.Author.Needs.{needs}
 use native.Mathlib.Omega.{arith}
 use mathlib.Core.Path.{ap, _∙_}
-use Prim.Native.Nat.{_-_}
+use Prim.Native.Nat.{_-_, _≤_}
 use Rattle.wire.specs.Order.{comparison}
 use Rattle.image.specs.Image.{keyIn, slotEntry, entriesOf}
 use Rattle.image.proofs.ImageLaws.{entry-at, used-is}
@@ -10,7 +10,7 @@ use Rattle.store.proofs.seek.Statement.{statement}
 use Rattle.store.proofs.seek.Tie as tie
 
 abbrev Inv-loop : tie.InvT-loop
-Inv-loop store key used i₀ i = Seeking key (entriesOf store) i
+Inv-loop store key used i₀ i = Seeking key (entriesOf store) i × (i ≤ used)
 
 abbrev μ-loop : tie.MeasureT-loop
 μ-loop store key used i₀ i = used - i
@@ -19,7 +19,7 @@ used-count-requires : tie.Need-used-count-requires Inv-loop μ-loop
 used-count-requires c κs = search needs
 
 loop-holds : tie.Need-loop-holds Inv-loop μ-loop
-loop-holds c = seeking-none _ _
+loop-holds c = (seeking-none _ _, omega arith)
 
 slot-requires : tie.Need-slot-requires Inv-loop μ-loop
 slot-requires c κs = search needs
@@ -36,9 +36,18 @@ enum-told c = search needs
 returns : tie.Need-returns Inv-loop μ-loop
 unfolding slotEntry
 returns c =
-    let a = c .before .before .before .before .before .before .before .before .before .before .args in
-    let i = c .before .before .before .before .before .before .loop .i in
-    seek-below (a .key .now) (entriesOf (a .store .now)) i (c .before .before .before .before .before .before .loop .inv) _ (entry-at i (a .store .now) (omega (arith, c .before .before .before .before .before .before .before .used-count .ensures .0, c .before .before .before .before .before .loop-test .taken))) _ (c .before .before .compare .ensures ∙ ap (comparison (a .key .now)) (c .before .before .before .slot-key .ensures ∙ ap keyIn (c .before .before .before .before .slot .ensures))) (c .enum-told .given .1)
+    let seen = c .before .before in
+    let read = seen .before .before in
+    let turn = read .before in
+    let head = turn .before in
+    let used = head .before .used-count in
+    let a = head .before .before .before .before .args in
+    let s = a .store .now in
+    let i = head .loop .i in
+    seek-below (a .key .now) (entriesOf s) i (head .loop .inv .0) (omega (arith, used .ensures .1, turn .loop-test .taken)) _
+    (entry-at i s (omega (arith, used .ensures .0, turn .loop-test .taken))) _
+    (seen .compare .ensures ∙ ap (comparison (a .key .now)) (seen .before .slot-key .ensures ∙ ap keyIn (read .slot .ensures)))
+    (c .enum-told .given .1)
 
 enum-told-2 : tie.Need-enum-told-2 Inv-loop μ-loop
 enum-told-2 c = search needs
@@ -46,9 +55,18 @@ enum-told-2 c = search needs
 returns-2 : tie.Need-returns-2 Inv-loop μ-loop
 unfolding slotEntry
 returns-2 c =
-    let a = c .before .before .before .before .before .before .before .before .before .before .args in
-    let i = c .before .before .before .before .before .before .loop .i in
-    seek-same (a .key .now) (entriesOf (a .store .now)) i (c .before .before .before .before .before .before .loop .inv) _ (entry-at i (a .store .now) (omega (arith, c .before .before .before .before .before .before .before .used-count .ensures .0, c .before .before .before .before .before .loop-test .taken))) _ (c .before .before .compare .ensures ∙ ap (comparison (a .key .now)) (c .before .before .before .slot-key .ensures ∙ ap keyIn (c .before .before .before .before .slot .ensures))) (c .enum-told2 .given .1)
+    let seen = c .before .before in
+    let read = seen .before .before in
+    let turn = read .before in
+    let head = turn .before in
+    let used = head .before .used-count in
+    let a = head .before .before .before .before .args in
+    let s = a .store .now in
+    let i = head .loop .i in
+    seek-same (a .key .now) (entriesOf s) i (head .loop .inv .0) (omega (arith, used .ensures .1, turn .loop-test .taken)) _
+    (entry-at i s (omega (arith, used .ensures .0, turn .loop-test .taken))) _
+    (seen .compare .ensures ∙ ap (comparison (a .key .now)) (seen .before .slot-key .ensures ∙ ap keyIn (read .slot .ensures)))
+    (c .enum-told2 .given .1)
 
 enum-told-3 : tie.Need-enum-told-3 Inv-loop μ-loop
 enum-told-3 c = search needs
@@ -62,14 +80,28 @@ loop-less c = omega (arith, c .before .before .before .before .before .loop-test
 loop-again : tie.Need-loop-again Inv-loop μ-loop
 unfolding slotEntry
 loop-again c =
-    let a = c .before .before .before .before .before .before .before .before .before .before .args in
-    let i = c .before .before .before .before .before .before .loop .i in
-    seek-above (a .key .now) (entriesOf (a .store .now)) i (c .before .before .before .before .before .before .loop .inv) _ (entry-at i (a .store .now) (omega (arith, c .before .before .before .before .before .before .before .used-count .ensures .0, c .before .before .before .before .before .loop-test .taken))) _ (c .before .before .compare .ensures ∙ ap (comparison (a .key .now)) (c .before .before .before .slot-key .ensures ∙ ap keyIn (c .before .before .before .before .slot .ensures))) (c .enum-told3 .given .1)
+    let seen = c .before .before in
+    let read = seen .before .before in
+    let turn = read .before in
+    let head = turn .before in
+    let used = head .before .used-count in
+    let a = head .before .before .before .before .args in
+    let s = a .store .now in
+    let i = head .loop .i in (
+      seek-above (a .key .now) (entriesOf s) i (head .loop .inv .0) (omega (arith, used .ensures .1, turn .loop-test .taken)) _
+          (entry-at i s (omega (arith, used .ensures .0, turn .loop-test .taken))) _
+          (seen .compare .ensures ∙ ap (comparison (a .key .now)) (seen .before .slot-key .ensures ∙ ap keyIn (read .slot .ensures)))
+          (c .enum-told3 .given .1),
+      omega (arith, turn .loop-test .taken),
+    )
 
 returns-3 : tie.Need-returns-3 Inv-loop μ-loop
 returns-3 c =
-    let a = c .before .before .before .before .before .args in
-    seek-end (a .key .now) (entriesOf (a .store .now)) (c .before .loop .i) (c .before .loop .inv) (omega (arith, c .before .before .used-count .ensures .0, c .loop-test .left, used-is (a .store .now)))
+    let head = c .before in
+    let used = head .before .used-count in
+    let a = head .before .before .before .before .args in
+    seek-end (a .key .now) (entriesOf (a .store .now)) (head .loop .i) (head .loop .inv .0) (omega (arith, used .ensures .1))
+    (omega (arith, used .ensures .0, c .loop-test .left, used-is (a .store .now)))
 
 pub seek-spec : {M : Type 1} → statement M
 seek-spec =

@@ -1,17 +1,19 @@
--- What the calls keep, and what is found after them.
-use Prim.Native.Nat.{ℕ, _≤_, _<_, _^_}
+-- What the calls keep, where a value stands, and what is found after an offer.
+use Prim.Native.Nat.{ℕ, _+_, _^_, _≤_, _<_}
 use mathlib.Core.Path.{_≡_}
 use mathlib.Core.Logic.{_⊎_}
 use mathlib.Core.Bool.{true, cond}
 use mathlib.Core.List.{List, []}
-use lib.Dec.{eqb}
+use mathlib.Core.Option.{some}
+use lib.ListN.{length}
+use Rattle.wire.specs.Fill.{field}
 use Rattle.entry.specs.Entry.{Entry}
 use Rattle.image.specs.Layout.{mostSlots}
 use Rattle.image.specs.Image.{slotsOf, entriesOf, sound}
-use Rattle.store.specs.Held.{put, putAll}
+use Rattle.store.specs.Held.{put, putAll, indexOf}
 use Rattle.store.specs.Answer.{stored, replaced, kept, isRefused}
 use Rattle.store.specs.Create.{freshStore}
-use Rattle.store.specs.Lookup.{lookupAnswer, valuePart, value, deleted}
+use Rattle.store.specs.Lookup.{value, findingFor, lookupAnswer, valuePart}
 use Rattle.store.specs.Offer.{offerAnswer, afterOffer}
 use Rattle.store.specs.Merge.{mergeAnswer, afterMerge}
 
@@ -44,7 +46,16 @@ MergeKeeps = (r g : List ℕ) → sound r ≡ true → sound g ≡ true
 abbrev pub KeptUnchanged : Type 0
 KeptUnchanged = (s : List ℕ) (e : Entry) → offerAnswer s e ≡ kept → afterOffer s e ≡ s
 
+-- the place that a lookup gives lies in the store, and the value stands there
+abbrev pub ValueStands : Type 0
+ValueStands = (s k : List ℕ) (at len : ℕ) → lookupAnswer s k ≡ value at len → (at + len ≤ length s) × (field at len s ≡ valuePart s k)
+
+-- a lookup of its key in a store t finds an entry: DELETED if it is a tombstone, else VALUE with its value's place; and its value
+pub record Finds (t : List ℕ) (e : Entry) : Type 0 where
+  pub told : lookupAnswer t (e .key) ≡ findingFor (indexOf (e .key) (entriesOf t)) (some e)
+  pub part : valuePart t (e .key) ≡ e .value
+
 -- an entry that was stored, or replaced another, is what a lookup of its key finds
 abbrev pub FoundAfterOffer : Type 0
 FoundAfterOffer = (s : List ℕ) (e : Entry) → Representable e → (offerAnswer s e ≡ stored) ⊎ (offerAnswer s e ≡ replaced)
-    → (lookupAnswer (afterOffer s e) (e .key) ≡ cond (eqb (e .flag) 1) deleted value) × (valuePart (afterOffer s e) (e .key) ≡ e .value)
+    → Finds (afterOffer s e) e
