@@ -7,3 +7,4 @@ pub mod OnSound
 pub mod Keeping
 pub mod Looking
 pub mod Ways
+pub mod Overtaking

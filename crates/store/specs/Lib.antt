@@ -5,4 +5,5 @@ pub mod Lookup
 pub mod Offer
 pub mod Merge
 pub mod Unchecked
+pub mod Overtaken
 pub mod Meaning

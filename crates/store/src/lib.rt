@@ -34,6 +34,7 @@ ghost use Rattle.store.specs.Create.{createdNumber, createRefusal, after
 ghost use Rattle.store.specs.Lookup.{findingOf, lookupAnswer, valuePart};
 ghost use Rattle.store.specs.Offer.{offerAnswer, afterOffer};
 ghost use Rattle.store.specs.Merge.{mergeAnswer, afterMerge};
+ghost use Rattle.store.specs.Overtaken.{overtakenUnchecked};
 ghost use Rattle.store.specs.Unchecked.{Placed, placedAnswer, afterPlaced, afterAll, countNew, lookupUnchecked, offerUnchecked, afterOfferUnchecked};
 
 // What became of a buffer that was to be a new store.
@@ -271,4 +272,16 @@ pub fn merge(receiver: &mut [u8], giver: &[u8]) -> Merged
     }
     give_all(receiver, giver);
     Merged::Done
+}
+
+// Whether a stamp is overtaken by that of the entry held for a key, in a store that is known to be sound.
+pub fn is_overtaken(store: &[u8], key: &[u8], stamp: Stamp) -> bool
+    ensures { λ r. ⌜ r ≡ overtakenUnchecked (now (store .entry)) (now (key .entry)) stamp ⌝ }
+{
+    let place = seek(store, key);
+    if !place.held {
+        return false;
+    }
+    let at = place.at;
+    !slot_stamp(slot(store, at)).is_below(stamp)
 }
