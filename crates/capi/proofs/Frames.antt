@@ -1,25 +1,28 @@
 -- The words of a frame, and the answers of the writers.
 use mathlib.Core.Path.{_≡_, refl, ap, _∙_}
 use mathlib.Core.Logic.{inl, inr}
-use mathlib.Core.List.{List}
+use mathlib.Core.List.{List, [], _++_}
 use Prim.Native.Nat.{ℕ, _≤_, _<_}
 use native.Mathlib.Omega.{arith}
-use lib.ListN.{length}
+use lib.ListN.{length, drop}
 use lib.Dec.{ltb, eqb}
-use borrow.Author.Tests.{eqb-true, eq-eqb}
-use Rattle.wire.proofs.Fill.{length-field}
-use Rattle.wire.proofs.Tests.{test, clash}
+use borrow.Author.Tests.{eqb-true}
+use Rattle.wire.proofs.Tests.{test}
+use Rattle.entry.specs.declared.Refusal.{Refusal}
 use Rattle.entry.specs.Refusal.{number}
-use Rattle.entry.proofs.Numbers.{number-not-0}
+use Rattle.frame.specs.declared.answer.Message.{Message as Located}
+use Rattle.frame.specs.declared.answer.Message.the-variants.{Put, Get, Del, Repl, Ok, Value, NotFound, Err}
 use Rattle.frame.specs.declared.answer.Read.{Read}
 use Rattle.frame.specs.declared.answer.Read.the-variants as read
 use Rattle.frame.specs.declared.answer.Wrote.{Wrote}
 use Rattle.frame.specs.Message.{Message, messageRefusal}
 use Rattle.frame.specs.Layout.{frameOf}
-use Rattle.frame.specs.Reading.{Outcome, meaning, Reads}
+use Rattle.frame.specs.Reading.{readAnswer}
 use Rattle.frame.specs.Writing.{answerOf, writeRefusal, writeAnswer, Writes}
 use Rattle.frame.proofs.RoundTrips.{frame-at-most-600}
-use Rattle.capi.specs.Frame.{bytesIn, wroteWord, writeWord, writeBytes, readRefusal, readWords, refusalOfRead, wordsIn}
+use Rattle.capi.specs.Result.{packed}
+use Rattle.capi.specs.Frame.{bytesIn, wroteWord, writeWord, writeBytes, fieldWords, readRefusal, readWords}
+use Rattle.capi.proofs.Fronts.{Puts, front-refused, front-no-room, front-put}
 
 -- ---- writers
 writes-at-most-600 : (m : Message) (out : List ℕ) → bytesIn (writeAnswer (messageRefusal m) (frameOf m) out) ≤ 600
@@ -39,61 +42,27 @@ module _ (m : Message) (out : List ℕ) (a : Wrote) (after : List ℕ) (w : Writ
   pub wrote-told : (r : ℕ) → r ≡ wroteWord (answerOf a) → (r ≡ writeWord m out) × (after ≡ writeBytes m out)
   wrote-told r e = (e ∙ ap wroteWord (w .answer), w .buffer)
 
--- ---- the reader
-pub same-refusal : (s : List ℕ) (r : Read) (o : Outcome) → Reads s r o → refusalOfRead r ≡ readRefusal o
-same-refusal s (read.Put ka kl va vl) o w = ap readRefusal (w .means)
-same-refusal s (read.Get ka kl) o w = ap readRefusal (w .means)
-same-refusal s (read.Del ka kl) o w = ap readRefusal (w .means)
-same-refusal s (read.Repl ka kl va vl f stamp) o w = ap readRefusal (w .means)
-same-refusal s read.Ok o w = ap readRefusal (w .means)
-same-refusal s (read.Value va vl) o w = ap readRefusal (w .means)
-same-refusal s read.NotFound o w = ap readRefusal (w .means)
-same-refusal s (read.Err n) o w = ap readRefusal (w .means)
-same-refusal s (read.Refused x) o w = ap readRefusal (w .means)
+-- ---- the ten words of a message
+pub ten-in : (m : Located) → length (fieldWords m) ≡ 10
+ten-in (Put ka kl va vl) = refl
+ten-in (Get ka kl) = refl
+ten-in (Del ka kl) = refl
+ten-in (Repl ka kl va vl f stamp) = refl
+ten-in Ok = refl
+ten-in (Value va vl) = refl
+ten-in NotFound = refl
+ten-in (Err n) = refl
 
--- ---- the ten words
-pub same-words : (s : List ℕ) (r : Read) (o : Outcome) → Reads s r o → refusalOfRead r ≡ 0 → wordsIn r ≡ readWords o
-same-words s (read.Put ka kl va vl) o w z =
-    let k = length-field ka kl s (w .within .0) in
-    let v = length-field va vl s (w .within .1) in
-    let a = w .offsets .0 in
-    let b = w .offsets .1 in
-    let e : wordsIn (read.Put ka kl va vl) ≡ readWords (meaning s (read.Put ka kl va vl)) = cc in
-    e ∙ ap readWords (w .means)
-same-words s (read.Get ka kl) o w z =
-    let k = length-field ka kl s (w .within) in
-    let a = w .offsets in
-    let e : wordsIn (read.Get ka kl) ≡ readWords (meaning s (read.Get ka kl)) = cc in
-    e ∙ ap readWords (w .means)
-same-words s (read.Del ka kl) o w z =
-    let k = length-field ka kl s (w .within) in
-    let a = w .offsets in
-    let e : wordsIn (read.Del ka kl) ≡ readWords (meaning s (read.Del ka kl)) = cc in
-    e ∙ ap readWords (w .means)
-same-words s (read.Repl ka kl va vl f stamp) o w z =
-    let k = length-field ka kl s (w .within .0) in
-    let v = length-field va vl s (w .within .1) in
-    let a = w .offsets .0 in
-    let b = w .offsets .1 in
-    let e : wordsIn (read.Repl ka kl va vl f stamp) ≡ readWords (meaning s (read.Repl ka kl va vl f stamp)) = cc in
-    e ∙ ap readWords (w .means)
-same-words s read.Ok o w z = ap readWords (w .means)
-same-words s (read.Value va vl) o w z =
-    let k = length-field va vl s (w .within) in
-    let a = w .offsets in
-    let e : wordsIn (read.Value va vl) ≡ readWords (meaning s (read.Value va vl)) = cc in
-    e ∙ ap readWords (w .means)
-same-words s read.NotFound o w z = ap readWords (w .means)
-same-words s (read.Err n) o w z = ap readWords (w .means)
-same-words s (read.Refused x) o w z = clash (eq-eqb (number x) 0 z) (number-not-0 x)
+-- a reading put into words
+module _ (s lent : List ℕ) (o : Read) (is : o ≡ readAnswer s) where
+  pub read-refused : (why : Refusal) → o ≡ read.Refused why → (r : ℕ) → r ≡ packed (number why) 0
+      → Puts (readRefusal (readAnswer s)) (readWords (readAnswer s)) lent r lent
+  read-refused why e r h = rw (← is, e) (front-refused (number why) [] lent r why refl h)
 
-pub ten-in : (r : Read) → length (wordsIn r) ≡ 10
-ten-in (read.Put ka kl va vl) = refl
-ten-in (read.Get ka kl) = refl
-ten-in (read.Del ka kl) = refl
-ten-in (read.Repl ka kl va vl f stamp) = refl
-ten-in read.Ok = refl
-ten-in (read.Value va vl) = refl
-ten-in read.NotFound = refl
-ten-in (read.Err n) = refl
-ten-in (read.Refused x) = refl
+  module _ (m : Located) (e : o ≡ read.Message m) where
+    pub read-no-room : length lent < 10 → (r : ℕ) → r ≡ packed 4 0 → Puts (readRefusal (readAnswer s)) (readWords (readAnswer s)) lent r lent
+    read-no-room l r h = let n = ten-in m in rw (← is, e) (front-no-room 0 (fieldWords m) lent r refl (omega arith) h)
+
+    pub read-put : 10 ≤ length lent → (words after : List ℕ) → words ≡ fieldWords m → after ≡ words ++ drop (length words) lent
+        → Puts (readRefusal (readAnswer s)) (readWords (readAnswer s)) lent 0 after
+    read-put l words after w h = let n = ten-in m in rw (← is, e) (front-put 0 (fieldWords m) lent 0 after refl (omega arith) refl (rw w at h))

@@ -2,17 +2,16 @@
 use Prim.Native.Nat.{ℕ, _+_, _^_, _<_}
 use mathlib.Core.Path.{_≡_}
 use mathlib.Core.Bool.{true}
-use mathlib.Core.List.{List, []}
+use mathlib.Core.List.{List}
 use lib.ListN.{length}
-use Rattle.wire.specs.Number.{Bytes}
 use Rattle.wire.specs.Fill.{field}
 use Rattle.clock.specs.declared.Clock.{Clock}
 use Rattle.clock.specs.Clock.{Stepped, freshClock, sendStep, receiveStep}
 use Rattle.peers.specs.declared.Row.{Row}
 use Rattle.peers.specs.declared.PeerTable.{PeerTable}
 use Rattle.peers.specs.Event.{freshAnswer, afterFresh, addAnswer, afterAdd, heardAnswer, afterHeard, reportedAnswer, afterReported, tickAnswer, afterTick}
-use Rattle.frame.specs.Message.{Message, put, get, del, repl, ok, value, notFound, err}
-use Rattle.frame.specs.Reading.{message, readFrame}
+use Rattle.frame.specs.Message.{Message, keyOf, valueOf}
+use Rattle.frame.specs.Reading.{message, readAnswer, readFrame}
 use Rattle.frame.specs.Writing.{writeRefusal, afterWrite}
 use Rattle.store.specs.Held.{_∈_}
 use Rattle.store.specs.Lookup.{lookupAnswer, valuePart}
@@ -88,28 +87,7 @@ partAt i w s = field (word w i) (word w (i + 1)) s
 abbrev pub ValuePlace : Type 0
 ValuePlace = (store key : List ℕ) → partAt 0 (placeWords (lookupAnswer store key)) store ≡ valuePart store key
 
--- the key of a message, and its value; empty where it has none
-abbrev pub keyOf : Message → List ℕ
-keyOf (put k v) = k
-keyOf (get k) = k
-keyOf (del k) = k
-keyOf (repl e) = e .key
-keyOf ok = []
-keyOf (value v) = []
-keyOf notFound = []
-keyOf (err n) = []
-
-abbrev pub valueOf : Message → List ℕ
-valueOf (put k v) = v
-valueOf (get k) = []
-valueOf (del k) = []
-valueOf (repl e) = e .value
-valueOf ok = []
-valueOf (value v) = v
-valueOf notFound = []
-valueOf (err n) = []
-
 -- at the places that a reading puts out the frame has the key and the value of its message
 pub record FieldPlaces : Type 0 where
-  pub key : (frame : List ℕ) (m : Message) → Bytes frame → readFrame frame ≡ message m → partAt 1 (readWords (readFrame frame)) frame ≡ keyOf m
-  pub value : (frame : List ℕ) (m : Message) → Bytes frame → readFrame frame ≡ message m → partAt 3 (readWords (readFrame frame)) frame ≡ valueOf m
+  pub key : (frame : List ℕ) (m : Message) → readFrame frame ≡ message m → partAt 1 (readWords (readAnswer frame)) frame ≡ keyOf m
+  pub value : (frame : List ℕ) (m : Message) → readFrame frame ≡ message m → partAt 3 (readWords (readAnswer frame)) frame ≡ valueOf m

@@ -6,6 +6,7 @@ use clock::Clock;
 use entry::Refusal;
 use entry::Stamp;
 use entry::TIME_LIMIT;
+use frame::Read;
 use peers::Admission;
 use peers::Changed;
 use peers::PeerAnswer;
@@ -18,7 +19,6 @@ use result::looked;
 use result::merged;
 use result::noted;
 use result::offered;
-use result::read;
 use result::received;
 use result::refused;
 use result::replied;
@@ -48,7 +48,7 @@ ghost use Rattle.ring.specs.Place.{tokenOf, positionAnswer};
 ghost use Rattle.ring.specs.Build.{buildAnswer, buildOutput};
 ghost use Rattle.ring.specs.Sound.{soundRing};
 ghost use Rattle.frame.specs.Message.{put, get, del, repl, ok, value as valueOf, notFound, err};
-ghost use Rattle.frame.specs.Reading.{readFrame};
+ghost use Rattle.frame.specs.Reading.{readAnswer};
 ghost use Rattle.frame.specs.Writing.{writeRefusal, afterWrite};
 ghost use Rattle.image.specs.Image.{sound as soundStore};
 ghost use Rattle.store.specs.Create.{createRefusal, afterCreate};
@@ -345,20 +345,21 @@ pub extern "C" fn sp_owners(
 // What a frame says, at the front of `fields`.
 #[no_mangle]
 pub extern "C" fn sp_frame_read(frame: &[u8], fields: &mut [u64]) -> u32
-    ensures told { λ r. ⌜ r ≡ packed (writeRefusal (readRefusal (readFrame (now (frame .entry)))) (readWords (readFrame (now (frame .entry)))) (now (fields .entry))) 0 ⌝ }
-    ensures left { λ _. ⌜ now (fields .exit) ≡ afterWrite (readRefusal (readFrame (now (frame .entry)))) (readWords (readFrame (now (frame .entry)))) (now (fields .entry)) ⌝ }
+    ensures told { λ r. ⌜ r ≡ packed (writeRefusal (readRefusal (readAnswer (now (frame .entry)))) (readWords (readAnswer (now (frame .entry)))) (now (fields .entry))) 0 ⌝ }
+    ensures left { λ _. ⌜ now (fields .exit) ≡ afterWrite (readRefusal (readAnswer (now (frame .entry)))) (readWords (readAnswer (now (frame .entry)))) (now (fields .entry)) ⌝ }
 {
-    let what = frame::read(frame);
-    let refusal = read(what);
-    if refusal != 0 {
-        return refusal;
+    let outcome = frame::read(frame);
+    match outcome {
+        Read::Refused(why) => refused(why),
+        Read::Message(message) => {
+            if fields.len() < 10 {
+                return refused(Refusal::NoRoom);
+            }
+            let words = field_words(message);
+            put_front(fields, &words);
+            0
+        }
     }
-    if fields.len() < 10 {
-        return refused(Refusal::NoRoom);
-    }
-    let words = field_words(what);
-    put_front(fields, &words);
-    0
 }
 
 #[no_mangle]

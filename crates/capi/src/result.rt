@@ -2,7 +2,6 @@
 use clock::ReceiveAnswer;
 use clock::SendAnswer;
 use entry::Refusal;
-use frame::Read;
 use frame::Wrote;
 use node::Reply;
 use peers::PeerAnswer;
@@ -26,24 +25,24 @@ ghost use Rattle.node.specs.Answer.{replyNumber};
 ghost use Rattle.capi.specs.Result.{packed, flag as flagOf};
 ghost use Rattle.capi.specs.Clock.{sendRefusal};
 ghost use Rattle.capi.specs.Ring.{refusalIn, givenIn, answerWord};
-ghost use Rattle.capi.specs.Frame.{bytesIn, wroteWord, refusalOfRead};
+ghost use Rattle.capi.specs.Frame.{bytesIn, wroteWord};
 ghost use Rattle.capi.specs.Store.{storeWord, lookRefusal, lookNumber};
 
 // A refusal alone.
-pub fn refused(why: Refusal) -> u32
+pub(crate) fn refused(why: Refusal) -> u32
     ensures { λ r. ⌜ r ≡ packed (number why) 0 ⌝ }
 {
     (why.number() as u32) * 65_536
 }
 
 // 1 for true and 0 for false.
-pub fn flag(holds: bool) -> u32
+pub(crate) fn flag(holds: bool) -> u32
     ensures { λ r. ⌜ r ≡ flagOf holds ⌝ }
 {
     if holds { 1 } else { 0 }
 }
 
-pub fn sent(answer: SendAnswer) -> u32
+pub(crate) fn sent(answer: SendAnswer) -> u32
     ensures { λ r. ⌜ r ≡ packed (sendRefusal (sendMeaning answer)) 0 ⌝ }
 {
     match answer {
@@ -52,7 +51,7 @@ pub fn sent(answer: SendAnswer) -> u32
     }
 }
 
-pub fn received(answer: ReceiveAnswer) -> u32
+pub(crate) fn received(answer: ReceiveAnswer) -> u32
     ensures { λ r. ⌜ r ≡ packed (receiveMeaning answer) 0 ⌝ }
 {
     match answer {
@@ -61,7 +60,7 @@ pub fn received(answer: ReceiveAnswer) -> u32
     }
 }
 
-pub fn noted(answer: PeerAnswer) -> u32
+pub(crate) fn noted(answer: PeerAnswer) -> u32
     ensures { λ r. ⌜ r ≡ packed (answerNumber answer) 0 ⌝ }
 {
     match answer {
@@ -70,7 +69,7 @@ pub fn noted(answer: PeerAnswer) -> u32
     }
 }
 
-pub fn built(answer: Built) -> u32
+pub(crate) fn built(answer: Built) -> u32
     requires { ⌜ givenIn (builtMeaning answer) < 65536 ⌝ }
     ensures { λ r. ⌜ r ≡ answerWord (builtMeaning answer) ⌝ }
 {
@@ -80,7 +79,7 @@ pub fn built(answer: Built) -> u32
     }
 }
 
-pub fn walked(answer: Ownership) -> u32
+pub(crate) fn walked(answer: Ownership) -> u32
     ensures { λ r. ⌜ r ≡ packed (refusalIn (ownershipMeaning answer)) 0 ⌝ }
 {
     match answer {
@@ -89,7 +88,7 @@ pub fn walked(answer: Ownership) -> u32
     }
 }
 
-pub fn wrote(answer: Wrote) -> u32
+pub(crate) fn wrote(answer: Wrote) -> u32
     requires { ⌜ bytesIn (answerOf answer) < 65536 ⌝ }
     ensures { λ r. ⌜ r ≡ wroteWord (answerOf answer) ⌝ }
 {
@@ -99,23 +98,7 @@ pub fn wrote(answer: Wrote) -> u32
     }
 }
 
-pub fn read(answer: Read) -> u32
-    ensures { λ r. ⌜ r ≡ packed (refusalOfRead answer) 0 ⌝ }
-{
-    match answer {
-        Read::Put { .. } => 0,
-        Read::Get { .. } => 0,
-        Read::Del { .. } => 0,
-        Read::Repl { .. } => 0,
-        Read::Ok => 0,
-        Read::Value { .. } => 0,
-        Read::NotFound => 0,
-        Read::Err(_) => 0,
-        Read::Refused(why) => refused(why),
-    }
-}
-
-pub fn created(answer: Created) -> u32
+pub(crate) fn created(answer: Created) -> u32
     ensures { λ r. ⌜ r ≡ packed (createdNumber answer) 0 ⌝ }
 {
     match answer {
@@ -124,7 +107,7 @@ pub fn created(answer: Created) -> u32
     }
 }
 
-pub fn offered(answer: Offered) -> u32
+pub(crate) fn offered(answer: Offered) -> u32
     ensures { λ r. ⌜ r ≡ storeWord (offerMeaning answer) ⌝ }
 {
     match answer {
@@ -135,7 +118,7 @@ pub fn offered(answer: Offered) -> u32
     }
 }
 
-pub fn merged(answer: Merged) -> u32
+pub(crate) fn merged(answer: Merged) -> u32
     ensures { λ r. ⌜ r ≡ storeWord (mergeAnswerOf answer) ⌝ }
 {
     match answer {
@@ -145,7 +128,7 @@ pub fn merged(answer: Merged) -> u32
 }
 
 // The refusal of a lookup alone.
-pub fn looked(answer: Looked) -> u32
+pub(crate) fn looked(answer: Looked) -> u32
     ensures { λ r. ⌜ r ≡ packed (lookRefusal (findingOf answer)) 0 ⌝ }
 {
     match answer {
@@ -157,7 +140,7 @@ pub fn looked(answer: Looked) -> u32
 }
 
 // The answer of a lookup alone.
-pub fn found(answer: Looked) -> u32
+pub(crate) fn found(answer: Looked) -> u32
     ensures { λ r. ⌜ r ≡ lookNumber (findingOf answer) ⌝ }
 {
     match answer {
@@ -168,7 +151,7 @@ pub fn found(answer: Looked) -> u32
     }
 }
 
-pub fn replied(answer: Reply, written: usize) -> u32
+pub(crate) fn replied(answer: Reply, written: usize) -> u32
     requires { ⌜ written < 65536 ⌝ }
     ensures { λ r. ⌜ r ≡ packed (replyNumber answer) written ⌝ }
 {

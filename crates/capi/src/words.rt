@@ -1,7 +1,7 @@
 // A clock as four words and a peer table as 61, and words put to the front of a lent slice.
 use clock::Clock;
 use entry::Stamp;
-use frame::Read;
+use frame::Message;
 use peers::PeerTable;
 use peers::Row;
 ghost use mathlib.Core.Path.{_≡_};
@@ -10,7 +10,7 @@ ghost use mathlib.Core.List.{_++_};
 ghost use Prim.Native.Nat.{_<_, _≤_};
 ghost use lib.ListN.{length, drop};
 ghost use Rattle.capi.specs.Words.{isClock, clockOf, clockWords, rowWords, tableWords, rowFits, rowOf, rowsFit, isTable, tableOf};
-ghost use Rattle.capi.specs.Frame.{partWords, replWords, wordsIn};
+ghost use Rattle.capi.specs.Frame.{partWords, replWords, fieldWords};
 
 const CLOCK_WORDS: usize = 4;
 
@@ -23,7 +23,7 @@ const HALF_LIMIT: u64 = 65_536;
 const WORD_LIMIT: u64 = 4_294_967_296;
 
 // Puts words to the front of `out`; the later ones stay.
-pub fn put_front(out: &mut [u64], words: &[u64])
+pub(crate) fn put_front(out: &mut [u64], words: &[u64])
     requires { ⌜ length (now words) ≤ length (now out) ⌝ }
     ensures { λ _. ⌜ now (out .exit) ≡ now (words .entry) ++ drop (length (now (words .entry))) (now (out .entry)) ⌝ }
 {
@@ -35,7 +35,7 @@ pub fn put_front(out: &mut [u64], words: &[u64])
 }
 
 // Whether words are a clock.
-pub fn is_clock(words: &[u64]) -> bool
+pub(crate) fn is_clock(words: &[u64]) -> bool
     ensures { λ r. ⌜ r ≡ isClock (now (words .entry)) ⌝ }
 {
     if words.len() != CLOCK_WORDS {
@@ -51,7 +51,7 @@ pub fn is_clock(words: &[u64]) -> bool
 }
 
 // The clock that words stand for.
-pub fn clock_of(words: &[u64]) -> Clock
+pub(crate) fn clock_of(words: &[u64]) -> Clock
     requires { ⌜ isClock (now words) ≡ true ⌝ }
     ensures { λ r. ⌜ r ≡ clockOf (now (words .entry)) ⌝ }
 {
@@ -64,7 +64,7 @@ pub fn clock_of(words: &[u64]) -> Clock
 }
 
 // Puts a clock's words to the front of `out`.
-pub fn put_clock(out: &mut [u64], clock: Clock)
+pub(crate) fn put_clock(out: &mut [u64], clock: Clock)
     requires { ⌜ 4 ≤ length (now out) ⌝ }
     ensures { λ _. ⌜ now (out .exit) ≡ clockWords clock ++ drop 4 (now (out .entry)) ⌝ }
 {
@@ -114,7 +114,7 @@ fn rows_fit(words: &[u64]) -> bool
 }
 
 // Whether words are a peer table.
-pub fn is_table(words: &[u64]) -> bool
+pub(crate) fn is_table(words: &[u64]) -> bool
     ensures { λ r. ⌜ r ≡ isTable (now (words .entry)) ⌝ }
 {
     if words.len() != TABLE_WORDS {
@@ -143,7 +143,7 @@ fn row_of(words: &[u64], k: usize) -> Row
 }
 
 // The peer table that words stand for.
-pub fn table_of(words: &[u64]) -> PeerTable
+pub(crate) fn table_of(words: &[u64]) -> PeerTable
     requires { ⌜ isTable (now words) ≡ true ⌝ }
     ensures { λ r. ⌜ r ≡ tableOf (now (words .entry)) ⌝ }
 {
@@ -174,7 +174,7 @@ fn row_words(row: Row) -> [u64; 6]
 }
 
 // Puts a table's words to the front of `out`.
-pub fn put_table(table: PeerTable, out: &mut [u64])
+pub(crate) fn put_table(table: PeerTable, out: &mut [u64])
     requires { ⌜ 61 ≤ length (now out) ⌝ }
     ensures { λ _. ⌜ now (out .exit) ≡ tableWords table ++ drop 61 (now (out .entry)) ⌝ }
 {
@@ -239,20 +239,20 @@ fn part_words(
     ]
 }
 
-// What was read of a frame, as ten words.
-pub fn field_words(what: Read) -> [u64; 10]
-    ensures { λ r. ⌜ r ≡ wordsIn what ⌝ }
+// A message that was read of a frame, as ten words.
+pub(crate) fn field_words(message: Message) -> [u64; 10]
+    ensures { λ r. ⌜ r ≡ fieldWords message ⌝ }
 {
-    match what {
-        Read::Put {
+    match message {
+        Message::Put {
             key_at,
             key_len,
             value_at,
             value_len,
         } => part_words(1, key_at, key_len, value_at, value_len),
-        Read::Get { key_at, key_len } => part_words(2, key_at, key_len, 0, 0),
-        Read::Del { key_at, key_len } => part_words(3, key_at, key_len, 0, 0),
-        Read::Repl {
+        Message::Get { key_at, key_len } => part_words(2, key_at, key_len, 0, 0),
+        Message::Del { key_at, key_len } => part_words(3, key_at, key_len, 0, 0),
+        Message::Repl {
             key_at,
             key_len,
             value_at,
@@ -260,16 +260,15 @@ pub fn field_words(what: Read) -> [u64; 10]
             flag,
             stamp,
         } => repl_words(key_at, key_len, value_at, value_len, flag, stamp),
-        Read::Ok => [16, 0, 0, 0, 0, 0, 0, 0, 0, 0],
-        Read::Value {
+        Message::Ok => [16, 0, 0, 0, 0, 0, 0, 0, 0, 0],
+        Message::Value {
             value_at,
             value_len,
         } => part_words(17, 0, 0, value_at, value_len),
-        Read::NotFound => [18, 0, 0, 0, 0, 0, 0, 0, 0, 0],
-        Read::Err(number) => {
+        Message::NotFound => [18, 0, 0, 0, 0, 0, 0, 0, 0, 0],
+        Message::Err(number) => {
             let n = number as u64;
             [20, 0, 0, 0, 0, 0, 0, 0, 0, n]
         }
-        Read::Refused(_) => [0; 10],
     }
 }

@@ -1,4 +1,4 @@
--- Messages and their bodies: which messages are taken, how long their bodies are, and that a body is read as its message.
+-- Messages and their bodies: which messages are taken, how long their bodies are, and that a message in its frame is read as it is.
 use mathlib.Core.Path.{_≡_, refl, sym, ap, ap₂, _∙_}
 use mathlib.Core.Logic.{inl, inr}
 use mathlib.Core.Bool.{Bool, true, false, _&&_}
@@ -19,8 +19,11 @@ use Rattle.entry.specs.Entry.{Entry, entryOf, badFlag, refusalOf}
 use Rattle.entry.proofs.Accept.{key-short}
 use Rattle.frame.specs.Message.{Message, put, get, del, repl, ok, value, notFound, err, timeFault, keyFault, valueFault, argumentFault, messageRefusal, InRange}
 use Rattle.frame.specs.Layout.{counted, stampBytes, typeOf, body}
-use Rattle.frame.specs.Reading.{message, numberAt, klen, keyIn, valueIn, stampIn, entryIn, keyEnds, valueEnds, outcomeOf, readBody}
+use Rattle.frame.specs.declared.answer.Message.{Message as Located}
+use Rattle.frame.specs.declared.answer.Message.the-variants.{Put, Get, Del, Repl, Ok, Value, NotFound, Err}
+use Rattle.frame.specs.Reading.{message, messageIn, meaning, numberAt, klen, vlen, stampIn, endsAt, keyEnds, valueEnds, judgedAs, checked, readBody}
 use Rattle.frame.proofs.Fields.{field-between, number-between}
+use Rattle.frame.proofs.Envelopes.{Framed}
 
 -- ---- a message that is taken fails no check
 pub record Taken (m : Message) : Type 0 where
@@ -126,127 +129,153 @@ body-short (value v) t = omega (arith, length-counted 2 v, ltb-false 512 (length
 body-short notFound t = omega arith
 body-short (err n) t = omega (arith, length-be 1 n)
 
--- ---- a body is read as its message
--- a key at the front
-module _ (b k r : List ℕ) (e : b ≡ counted 1 k ++ r) (h : length k ≤ 64) where
-  pub klen-back : klen b ≡ length k
-  unfolding klen counted
-  klen-back = number-between 0 1 (length k) b [] (k ++ r) (e ∙ append-assoc (be 1 (length k)) k r) refl (omega arith)
+-- ---- a message in its frame
+module _ (s b : List ℕ) (f : Framed s b) where
+  -- a part of the body
+  field-in : (at w : ℕ) (x y z : List ℕ) → b ≡ x ++ (y ++ z) → length x + 4 ≡ at → length y ≡ w → field at w s ≡ y
+  field-in at w x y z e h k =
+      field-between at w s (f .before ++ x) y (z ++ f .after) (f .is ∙ rw e (simp append-assoc)) (length-append (f .before) x ∙ omega (arith, f .head)) k
 
-  pub key-back : keyIn b ≡ k
-  unfolding keyIn counted
-  key-back =
-      ap (λ (w : ℕ). field 1 w b) klen-back
-      ∙ field-between 1 (length k) b (be 1 (length k)) k r (e ∙ append-assoc (be 1 (length k)) k r) (length-be 1 (length k)) refl
+  number-in : (at w n : ℕ) (x z : List ℕ) → b ≡ x ++ (be w n ++ z) → length x + 4 ≡ at → n < 256 ^ w → numberAt at w s ≡ n
+  number-in at w n x z e h k =
+      number-between at w n s (f .before ++ x) (z ++ f .after) (f .is ∙ rw e (simp append-assoc)) (length-append (f .before) x ∙ omega (arith, f .head)) k
 
--- a value at the end
-module _ (a : ℕ) (b p v : List ℕ) (e : b ≡ p ++ counted 2 v) (n : length p ≡ a) (h : length v ≤ 512) where
-  vlen-back : numberAt a 2 b ≡ length v
-  unfolding counted
-  vlen-back = number-between a 2 (length v) b p v e n (omega arith)
+  ends-in : (end : ℕ) → length b + 4 ≡ end → endsAt end s ≡ true
+  unfolding endsAt
+  ends-in end h =
+      eq-eqb (length s) (end + 4) (ap length (f .is) ∙ length-append (f .before) (b ++ f .after) ∙ omega (arith, length-append b (f .after), f .head, f .sum))
 
-  pub value-back : valueIn a b ≡ v
-  unfolding valueIn counted
-  value-back =
-      ap (λ (w : ℕ). field (a + 2) w b) vlen-back
-      ∙ field-between (a + 2) (length v) b (p ++ be 2 (length v)) v [] (e ∙ rw (append-nil v) (sym (append-assoc p (be 2 (length v)) v)))
-      (length-append p (be 2 (length v)) ∙ omega (arith, length-be 2 (length v))) refl
+  -- a key at the front
+  module _ (k r : List ℕ) (e : b ≡ counted 1 k ++ r) (h : length k ≤ 64) where
+    klen-in : klen s ≡ length k
+    unfolding klen counted
+    klen-in = number-in 4 1 (length k) [] (k ++ r) (e ∙ append-assoc (be 1 (length k)) k r) refl (omega arith)
 
-  pub ends-back : valueEnds a b ≡ true
-  unfolding valueEnds
-  ends-back =
-      rw vlen-back (eq-eqb (length b) (a + 2 + length v) (ap length e ∙ length-append p (counted 2 v) ∙ omega (arith, length-counted 2 v)))
+    key-in : field 5 (klen s) s ≡ k
+    unfolding counted
+    key-in = field-in 5 (klen s) (be 1 (length k)) k r (e ∙ append-assoc (be 1 (length k)) k r) (omega (arith, length-be 1 (length k))) (sym klen-in)
 
--- a key alone
-module _ (k : List ℕ) (h : badKey k ≡ false) where
-  key-alone : keyIn (counted 1 k) ≡ k
-  key-alone = key-back (counted 1 k) k [] (sym (append-nil (counted 1 k))) (key-short k h)
+  -- a value at the end
+  module _ (at va : ℕ) (p v : List ℕ) (e : b ≡ p ++ counted 2 v) (n : length p + 4 ≡ at) (next : at + 2 ≡ va) (h : length v ≤ 512) where
+    vlen-in : vlen at s ≡ length v
+    unfolding vlen counted
+    vlen-in = number-in at 2 (length v) p v e n (omega arith)
 
-  key-ends : keyEnds (counted 1 k) ≡ true
-  unfolding keyEnds
-  key-ends =
-      let n = klen-back (counted 1 k) k [] (sym (append-nil (counted 1 k))) (key-short k h) in
-      eq-eqb (length (counted 1 k)) (klen (counted 1 k) + 1) (length-counted 1 k ∙ omega arith)
+    value-in : field va (vlen at s) s ≡ v
+    unfolding counted
+    value-in =
+        field-in va (vlen at s) (p ++ be 2 (length v)) v [] (e ∙ rw (append-nil v) (sym (append-assoc p (be 2 (length v)) v)))
+        (omega (arith, length-append p (be 2 (length v)), length-be 2 (length v))) (sym vlen-in)
+
+    value-ends-in : valueEnds at s ≡ true
+    unfolding valueEnds
+    value-ends-in = ends-in (at + 2 + vlen at s) (omega (arith, ap length e ∙ length-append p (counted 2 v), length-counted 2 v, vlen-in))
+
+-- a message that fails no check, read where it stands
+clean : (s : List ℕ) (w : Bool) (l : Located) (m : Message) → w ≡ true → messageIn s l ≡ m → Taken m → meaning s (checked s w l) ≡ message m
+unfolding checked judgedAs
+clean s w l m p q t = rw (p, q, t .argument, t .key, t .value) (ap message q)
 
 -- the entry of a REPL
-module _ (e : Entry) (t : Taken (repl e)) (i : InRange (repl e)) where
-  abbrev b : List ℕ
-  b = body (repl e)
+module _ (s : List ℕ) (e : Entry) (f : Framed s (body (repl e))) (t : Taken (repl e)) (i : InRange (repl e)) where
+  abbrev k : List ℕ
+  k = e .key
 
-  abbrev front : List ℕ
-  front = counted 1 (e .key) ++ be 1 (e .flag)
+  abbrev st : Stamp
+  st = e .stamp
 
-  repl-klen : klen b ≡ length (e .key)
-  unfolding body keyFault
-  repl-klen = klen-back b (e .key) (be 1 (e .flag) ++ (stampBytes (e .stamp) ++ counted 2 (e .value))) (simp append-assoc) (key-short (e .key) (t .key))
+  -- the body up to its flag, its stamp and its value
+  abbrev atFlag : List ℕ
+  atFlag = counted 1 k
 
-  repl-key : keyIn b ≡ e .key
-  unfolding body keyFault
-  repl-key = key-back b (e .key) (be 1 (e .flag) ++ (stampBytes (e .stamp) ++ counted 2 (e .value))) (simp append-assoc) (key-short (e .key) (t .key))
+  abbrev atStamp : List ℕ
+  atStamp = counted 1 k ++ be 1 (e .flag)
 
-  repl-flag : numberAt (klen b + 1) 1 b ≡ e .flag
+  abbrev atValue : List ℕ
+  atValue = atStamp ++ stampBytes st
+
+  short : length k ≤ 64
+  unfolding keyFault
+  short = key-short k (t .key)
+
+  repl-klen : klen s ≡ length k
+  unfolding body
+  repl-klen = klen-in s _ f k (be 1 (e .flag) ++ (stampBytes st ++ counted 2 (e .value))) (simp append-assoc) short
+
+  repl-key : field 5 (klen s) s ≡ k
+  unfolding body
+  repl-key = key-in s _ f k (be 1 (e .flag) ++ (stampBytes st ++ counted 2 (e .value))) (simp append-assoc) short
+
+  repl-flag : numberAt (klen s + 5) 1 s ≡ e .flag
   unfolding body argumentFault badFlag
   repl-flag =
-      let f = ltb-false 1 (e .flag) (or-false (ltb 1 (e .flag)) (eqb (e .flag) 1 && ltb 0 (length (e .value))) (t .argument) .0) in
-      number-between (klen b + 1) 1 (e .flag) b (counted 1 (e .key)) (stampBytes (e .stamp) ++ counted 2 (e .value)) (simp append-assoc)
-      (length-counted 1 (e .key) ∙ omega (arith, repl-klen)) (omega arith)
+      let l = ltb-false 1 (e .flag) (or-false (ltb 1 (e .flag)) (eqb (e .flag) 1 && ltb 0 (length (e .value))) (t .argument) .0) in
+      number-in s _ f (klen s + 5) 1 (e .flag) atFlag (stampBytes st ++ counted 2 (e .value)) (simp append-assoc) (omega (arith, length-counted 1 k, repl-klen)) (omega arith)
 
-  length-front : length front ≡ klen b + 2
-  length-front =
-      length-append (counted 1 (e .key)) (be 1 (e .flag)) ∙ omega (arith, length-counted 1 (e .key), length-be 1 (e .flag), repl-klen)
+  length-at-stamp : length atStamp + 4 ≡ klen s + 6
+  length-at-stamp = omega (arith, length-append (counted 1 k) (be 1 (e .flag)), length-counted 1 k, length-be 1 (e .flag), repl-klen)
 
-  repl-stamp : stampIn (klen b + 2) b ≡ e .stamp
+  repl-stamp : stampIn (klen s + 6) s ≡ st
   unfolding stampIn body stampBytes timeFault
   repl-stamp =
-      let s = e .stamp in
-      let q = length-front in
-      let p : numberAt (klen b + 2) 6 b ≡ s .phys =
-      number-between (klen b + 2) 6 (s .phys) b front (be 2 (s .logical) ++ (be 1 (s .node) ++ counted 2 (e .value))) (simp append-assoc)
-      q (leb-false (2 ^ 48) (s .phys) (t .time)) in
-      let l : numberAt (klen b + 2 + 6) 2 b ≡ s .logical =
-      number-between (klen b + 2 + 6) 2 (s .logical) b (front ++ be 6 (s .phys)) (be 1 (s .node) ++ counted 2 (e .value)) (simp append-assoc)
-      (length-append front (be 6 (s .phys)) ∙ omega (arith, length-be 6 (s .phys))) (i .0) in
-      let n : numberAt (klen b + 2 + 8) 1 b ≡ s .node =
-      number-between (klen b + 2 + 8) 1 (s .node) b (front ++ be 6 (s .phys) ++ be 2 (s .logical)) (counted 2 (e .value)) (simp append-assoc)
-      (length-append (front ++ be 6 (s .phys)) (be 2 (s .logical))
-      ∙ omega (arith, length-append front (be 6 (s .phys)), length-be 6 (s .phys), length-be 2 (s .logical))) (i .1) in
+      let q = length-at-stamp in
+      let n6 = length-be 6 (st .phys) in
+      let n2 = length-be 2 (st .logical) in
+      let l6 = length-append atStamp (be 6 (st .phys)) in
+      let l2 = length-append (atStamp ++ be 6 (st .phys)) (be 2 (st .logical)) in
+      let p : numberAt (klen s + 6) 6 s ≡ st .phys =
+      number-in s _ f (klen s + 6) 6 (st .phys) atStamp (be 2 (st .logical) ++ (be 1 (st .node) ++ counted 2 (e .value))) (simp append-assoc)
+      q (leb-false (2 ^ 48) (st .phys) (t .time)) in
+      let l : numberAt (klen s + 6 + 6) 2 s ≡ st .logical =
+      number-in s _ f (klen s + 6 + 6) 2 (st .logical) (atStamp ++ be 6 (st .phys)) (be 1 (st .node) ++ counted 2 (e .value)) (simp append-assoc)
+      (omega arith) (i .0) in
+      let n : numberAt (klen s + 6 + 8) 1 s ≡ st .node =
+      number-in s _ f (klen s + 6 + 8) 1 (st .node) (atStamp ++ be 6 (st .phys) ++ be 2 (st .logical)) (counted 2 (e .value)) (simp append-assoc)
+      (omega arith) (i .1) in
       λ j. record { phys = p j; logical = l j; node = n j }
 
-  length-head : length (front ++ stampBytes (e .stamp)) ≡ klen b + 11
-  length-head = length-append front (stampBytes (e .stamp)) ∙ omega (arith, length-front, length-stamp (e .stamp))
+  length-at-value : length atValue + 4 ≡ klen s + 15
+  length-at-value = omega (arith, length-append atStamp (stampBytes st), length-at-stamp, length-stamp st)
 
-  pub repl-ends : valueEnds (klen b + 11) b ≡ true
-  unfolding body valueFault
-  repl-ends = ends-back (klen b + 11) b (front ++ stampBytes (e .stamp)) (e .value) refl length-head (ltb-false 512 (length (e .value)) (t .value))
+  small : length (e .value) ≤ 512
+  unfolding valueFault
+  small = ltb-false 512 (length (e .value)) (t .value)
 
-  pub repl-back : entryIn b ≡ e
-  unfolding entryIn body valueFault
-  repl-back =
-      let v = value-back (klen b + 11) b (front ++ stampBytes (e .stamp)) (e .value) refl length-head (ltb-false 512 (length (e .value)) (t .value)) in
-      λ j. record { key = repl-key j; value = v j; flag = repl-flag j; stamp = repl-stamp j }
+  repl-ends : valueEnds (klen s + 15) s ≡ true
+  unfolding body
+  repl-ends = value-ends-in s _ f (klen s + 15) (klen s + 17) atValue (e .value) refl length-at-value (omega arith) small
 
-clean : (w : Bool) (m′ m : Message) → w ≡ true → m′ ≡ m → Taken m → outcomeOf w m′ ≡ message m
-unfolding outcomeOf
-clean w m′ m p q t = rw (p, q, t .key, t .value)
+  repl-in : messageIn s (Repl 5 (klen s) (klen s + 17) (vlen (klen s + 15) s) (numberAt (klen s + 5) 1 s) (stampIn (klen s + 6) s)) ≡ repl e
+  unfolding body
+  repl-in =
+      let v = value-in s _ f (klen s + 15) (klen s + 17) atValue (e .value) refl length-at-value (omega arith) small in
+      λ j. repl (record { key = repl-key j; value = v j; flag = repl-flag j; stamp = repl-stamp j })
 
-pub body-reads : (m : Message) → Taken m → InRange m → readBody (typeOf m) (body m) ≡ message m
+module _ (s k : List ℕ) (f : Framed s (counted 1 k)) (h : badKey k ≡ false) where
+  key-alone : field 5 (klen s) s ≡ k
+  key-alone = key-in s _ f k [] (sym (append-nil (counted 1 k))) (key-short k h)
+
+  key-ends : keyEnds s ≡ true
+  unfolding keyEnds
+  key-ends = ends-in s _ f (klen s + 5) (omega (arith, length-counted 1 k, klen-in s _ f k [] (sym (append-nil (counted 1 k))) (key-short k h)))
+
+pub body-reads : (m : Message) (s : List ℕ) → Framed s (body m) → Taken m → InRange m → meaning s (readBody (typeOf m) s) ≡ message m
 unfolding readBody typeOf body keyFault valueFault argumentFault
-body-reads (put k v) t i =
-    let b = counted 1 k ++ counted 2 v in
-    let kl = klen-back b k (counted 2 v) refl (key-short k (t .key)) in
-    let n : length (counted 1 k) ≡ klen b + 1 = length-counted 1 k ∙ omega arith in
+body-reads (put k v) s f t i =
+    let n = klen-in s _ f k (counted 2 v) refl (key-short k (t .key)) in
+    let p : length (counted 1 k) + 4 ≡ klen s + 5 = omega (arith, length-counted 1 k) in
     let h = ltb-false 512 (length v) (t .value) in
-    clean _ _ (put k v) (ends-back (klen b + 1) b (counted 1 k) v refl n h)
-    (ap₂ put (key-back b k (counted 2 v) refl (key-short k (t .key))) (value-back (klen b + 1) b (counted 1 k) v refl n h)) t
-body-reads (get k) t i = clean _ _ (get k) (key-ends k (t .key)) (ap get (key-alone k (t .key))) t
-body-reads (del k) t i = clean _ _ (del k) (key-ends k (t .key)) (ap del (key-alone k (t .key))) t
-body-reads (repl e) t i = clean _ _ (repl e) (rw (repl-ends e t i, repl-back e t i, t .argument)) (ap repl (repl-back e t i)) t
-body-reads ok t i = clean _ _ ok refl refl t
-body-reads (value v) t i =
+    clean s _ _ (put k v) (value-ends-in s _ f (klen s + 5) (klen s + 7) (counted 1 k) v refl p (omega arith) h)
+    (ap₂ put (key-in s _ f k (counted 2 v) refl (key-short k (t .key))) (value-in s _ f (klen s + 5) (klen s + 7) (counted 1 k) v refl p (omega arith) h)) t
+body-reads (get k) s f t i = clean s _ _ (get k) (key-ends s k f (t .key)) (ap get (key-alone s k f (t .key))) t
+body-reads (del k) s f t i = clean s _ _ (del k) (key-ends s k f (t .key)) (ap del (key-alone s k f (t .key))) t
+body-reads (repl e) s f t i = clean s _ _ (repl e) (repl-ends s e f t i) (repl-in s e f t i) t
+body-reads ok s f t i = clean s _ _ ok (ends-in s [] f 4 refl) refl t
+body-reads (value v) s f t i =
     let h = ltb-false 512 (length v) (t .value) in
-    clean _ _ (value v) (ends-back 0 (counted 2 v) [] v refl refl h) (ap value (value-back 0 (counted 2 v) [] v refl refl h)) t
-body-reads notFound t i = clean _ _ notFound refl refl t
-body-reads (err n) t i =
+    clean s _ _ (value v) (value-ends-in s _ f 4 6 [] v refl refl refl h) (ap value (value-in s _ f 4 6 [] v refl refl refl h)) t
+body-reads notFound s f t i = clean s _ _ notFound (ends-in s [] f 4 refl) refl t
+body-reads (err n) s f t i =
     let a = or-false (eqb n 0) (ltb 255 n) (t .argument) in
-    let e = number-between 0 1 n (be 1 n) [] [] (sym (append-nil (be 1 n))) refl (omega (arith, ltb-false 255 n (a .1))) in
-    clean _ _ (err n) (rw (e, eq-eqb (length (be 1 n)) 1 (length-be 1 n), a .0)) (ap err e) t
+    let e = number-in s _ f 4 1 n [] [] (sym (append-nil (be 1 n))) refl (omega (arith, ltb-false 255 n (a .1))) in
+    clean s _ _ (err n) (ends-in s _ f 5 (omega (arith, length-be 1 n))) (ap err e) t

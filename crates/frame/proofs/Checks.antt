@@ -16,7 +16,7 @@ use Rattle.wire.proofs.Tests.{test, false-of}
 use Rattle.checksum.specs.Crc32c.{crc32c}
 use Rattle.entry.specs.Order.{least}
 use Rattle.entry.specs.Entry.{entryOf, badFlag}
-use Rattle.frame.specs.Reading.{numberAt, lengthHolds, checksumHolds, flagsHold, envelopeHolds, bodyIn, klen, valueEnds}
+use Rattle.frame.specs.Reading.{numberAt, lengthHolds, checksumHolds, flagsHold, envelopeHolds, vlen, endsAt, valueEnds}
 use Rattle.frame.proofs.Fields.{field-slice, be-number}
 use Rattle.frame.proofs.Envelopes.{Holding, holding}
 
@@ -32,10 +32,6 @@ pub number-part : (at w : ℕ) (s : List ℕ) → w ≤ 8 → num (take 8 (take 
 unfolding numberAt field
 number-part at w s h =
     ap (λ (r : List ℕ). num (take 8 r)) (field-slice at w s) ∙ num-whole (field at w s) (omega (arith, length-take w (drop at s)))
-
-pub body-part : (s : List ℕ) → take (length s - 4 - 4) (drop 4 s) ≡ bodyIn s
-unfolding bodyIn field
-body-part s = let e : length s - 4 - 4 ≡ length s - 8 = omega arith in ap (λ (k : ℕ). take k (drop 4 s)) e
 
 -- ---- the envelope
 pub fails : (s : List ℕ) → (Holding s → ⊥) → false ≡ envelopeHolds s
@@ -73,25 +69,13 @@ module _ (s : List ℕ) (bs : Bytes s) (low : 8 ≤ length s) (high : length s �
   ]
 
 -- ---- bodies
-pub klen-none : (b : List ℕ) → length b ≡ 0 → 0 ≡ klen b
-unfolding klen numberAt field num numFrom
-klen-none [] h = refl
-klen-none (x ∷ b) h = absurd (no (length b) h)
-  where
-    no : (n : ℕ) → suc n ≡ 0 → ⊥
-    no n h = omega arith
+pub ends-short : (at : ℕ) (s : List ℕ) → length s < at + 6 → false ≡ valueEnds at s
+unfolding valueEnds endsAt
+ends-short at s h = sym (ne-eqb (length s) (at + 2 + vlen at s + 4) (omega arith))
 
-pub ends-short : (at : ℕ) (b : List ℕ) → length b < at + 2 → false ≡ valueEnds at b
-unfolding valueEnds
-ends-short at b h = sym (ne-eqb (length b) (at + 2 + numberAt at 2 b) (omega arith))
-
-pub ends-by-length : (at : ℕ) (b : List ℕ) (n : ℕ) → at + 2 ≤ length b → n ≡ numberAt at 2 b → eqb n (length b - 2 - at) ≡ valueEnds at b
-unfolding valueEnds
-ends-by-length at b n h e = eqb-both n (length b - 2 - at) (length b) (at + 2 + numberAt at 2 b) (λ p. omega arith) (λ p. omega arith)
-
-pub ends-length : (at : ℕ) (b : List ℕ) → valueEnds at b ≡ true → length b ≡ at + 2 + numberAt at 2 b
-unfolding valueEnds
-ends-length at b h = eqb-true (length b) (at + 2 + numberAt at 2 b) h
+pub ends-by-length : (at : ℕ) (s : List ℕ) (n : ℕ) → at + 6 ≤ length s → n ≡ numberAt at 2 s → eqb n (length s - 6 - at) ≡ valueEnds at s
+unfolding valueEnds endsAt vlen
+ends-by-length at s n h e = eqb-both n (length s - 6 - at) (length s) (at + 2 + numberAt at 2 s + 4) (λ p. omega arith) (λ p. omega arith)
 
 -- the flag of a tombstone, and the other flags
 module _ (v : List ℕ) (f : ℕ) where

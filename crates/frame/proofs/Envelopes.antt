@@ -14,7 +14,7 @@ use Rattle.wire.proofs.Order.{sameBytes-eq, sameBytes-refl}
 use Rattle.wire.proofs.Tests.{and-true}
 use Rattle.checksum.specs.Crc32c.{crc32c}
 use Rattle.frame.specs.Layout.{envelope}
-use Rattle.frame.specs.Reading.{numberAt, lengthHolds, checksumHolds, flagsHold, envelopeHolds, typeIn, bodyIn, readBody, readFrame}
+use Rattle.frame.specs.Reading.{numberAt, lengthHolds, checksumHolds, flagsHold, envelopeHolds, typeIn, readBody, readAnswer}
 use Rattle.frame.proofs.Fields.{field-between, field-join, field-all, field-byte, number-between, be-number}
 
 pub length-envelope : (t : ℕ) (b : List ℕ) → length (envelope t b) ≡ length b + 8
@@ -22,6 +22,14 @@ unfolding envelope
 length-envelope t b =
     length-append (be 2 (length b + 6) ++ (t ∷ 0 ∷ b)) (be 4 (crc32c (t ∷ 0 ∷ b)))
     ∙ omega (arith, length-append (be 2 (length b + 6)) (t ∷ 0 ∷ b), length-be 2 (length b + 6), length-be 4 (crc32c (t ∷ 0 ∷ b)))
+
+-- a body in its frame: LEN, TYPE and FLAGS before it, and the checksum after it
+pub record Framed (s b : List ℕ) : Type 0 where
+  pub before : List ℕ
+  pub after : List ℕ
+  pub is : s ≡ before ++ (b ++ after)
+  pub head : length before ≡ 4
+  pub sum : length after ≡ 4
 
 module _ (t : ℕ) (b : List ℕ) where
   abbrev sum : List ℕ
@@ -39,14 +47,6 @@ module _ (t : ℕ) (b : List ℕ) where
   flags-back =
       ap num (field-between 3 1 (envelope t b) (len ++ (t ∷ [])) (0 ∷ []) (b ++ sum) (simp append-assoc)
       (length-append len (t ∷ []) ∙ omega (arith, length-be 2 (length b + 6))) refl)
-
-  body-back : bodyIn (envelope t b) ≡ b
-  unfolding bodyIn envelope
-  body-back =
-      let n : length (envelope t b) - 8 ≡ length b = omega (arith, length-envelope t b) in
-      ap (λ (w : ℕ). field 4 w (envelope t b)) n
-      ∙ field-between 4 (length b) (envelope t b) (len ++ (t ∷ 0 ∷ [])) b sum (simp append-assoc)
-      (length-append len (t ∷ 0 ∷ []) ∙ omega (arith, length-be 2 (length b + 6))) refl
 
   checksum-back : checksumHolds (envelope t b) ≡ true
   unfolding checksumHolds envelope
@@ -69,10 +69,20 @@ module _ (t : ℕ) (b : List ℕ) where
       let n = length-envelope t b in
       rw (l, le-leb 6 (length b + 6) (omega arith), le-leb (length b + 6) 598 (omega arith), eq-eqb (length (envelope t b)) (length b + 6 + 2) (omega arith))
 
-  -- a body that is put into its frame is read out of it
-  pub envelope-reads : length b ≤ 592 → readFrame (envelope t b) ≡ readBody t b
-  unfolding readFrame envelopeHolds flagsHold
-  envelope-reads h = rw (length-back h, checksum-back, flags-back, type-back, body-back)
+  pub framed : Framed (envelope t b) b
+  unfolding envelope
+  framed = record {
+    before = len ++ (t ∷ 0 ∷ []);
+    after = sum;
+    is = simp append-assoc;
+    head = length-append len (t ∷ 0 ∷ []) ∙ omega (arith, length-be 2 (length b + 6));
+    sum = length-be 4 (crc32c (t ∷ 0 ∷ b));
+  }
+
+  -- a frame is read by the type that it was given
+  pub envelope-reads : length b ≤ 592 → readAnswer (envelope t b) ≡ readBody t (envelope t b)
+  unfolding readAnswer envelopeHolds flagsHold
+  envelope-reads h = rw (length-back h, checksum-back, flags-back, type-back)
 
 -- ---- an envelope that holds
 pub record Holding (s : List ℕ) : Type 0 where
@@ -97,8 +107,8 @@ holding s h =
       flags = eqb-true (numberAt 3 1 s) 0 (e .1);
     }
 
-pub envelope-writes : (s : List ℕ) → Bytes s → envelopeHolds s ≡ true → envelope (typeIn s) (bodyIn s) ≡ s
-unfolding envelope typeIn bodyIn
+pub envelope-writes : (s : List ℕ) → Bytes s → envelopeHolds s ≡ true → envelope (typeIn s) (field 4 (length s - 8) s) ≡ s
+unfolding envelope typeIn
 envelope-writes s bs h =
     let k = holding s h in
     let w : length (field 4 (length s - 8) s) ≡ length s - 8 = length-field 4 (length s - 8) s (omega arith) in

@@ -1,7 +1,8 @@
 pub mod Fields
 pub mod Envelopes
 pub mod Bodies
-pub mod RoundTrips
+pub mod ByType
 pub mod Checks
-pub mod Outcomes
+pub mod Answers
 pub mod Buffers
+pub mod RoundTrips

@@ -1,229 +1,290 @@
 -- What was written reads back, and what was read, written again, is the same bytes.
 use mathlib.Core.Path.{_≡_, refl, sym, ap, ap₂, _∙_}
-use mathlib.Core.Logic.{inl, inr}
-use mathlib.Core.Bool.{Bool, true, false, not, _&&_}
+use mathlib.Core.Logic.{_⊎_, inl, inr}
+use mathlib.Core.Bool.{Bool, true, false}
 use mathlib.Core.List.{List, [], _++_}
 use Prim.Native.Nat.{ℕ, _+_, _-_, _^_, _≤_}
 use native.Mathlib.Omega.{arith}
-use lib.ListN.{length}
-use lib.Dec.{eqb}
-use borrow.Author.Tests.{le-ltb, lt-leb, eqb-true, not-true}
+use lib.ListN.{length, take, drop}
+use lib.Seq.{take-at}
+use lib.Dec.{ltb, eqb}
+use borrow.Author.Tests.{le-ltb, lt-leb, ltb-false, eqb-true}
 use Rattle.wire.specs.Number.{be, Bytes}
 use Rattle.wire.specs.Fill.{field}
 use Rattle.wire.proofs.Fill.{length-field}
-use Rattle.wire.proofs.Tests.{test, clash, and-true}
-use Rattle.entry.specs.Entry.{badFlag}
+use Rattle.wire.proofs.Tests.{test}
+use Rattle.entry.specs.declared.Refusal.{Refusal}
+use Rattle.entry.specs.declared.Refusal.the-variants.{BadKey, ValueTooLarge, BadFrame}
+use Rattle.frame.specs.declared.answer.Message.{Message as Located}
+use Rattle.frame.specs.declared.answer.Message.the-variants.{Get, Del, Ok, Value, NotFound, Err}
+use Rattle.frame.specs.declared.answer.Read.{Read}
+use Rattle.frame.specs.declared.answer.Read.the-variants.{Message as Said, Refused}
 use Rattle.frame.specs.declared.answer.Wrote.{Wrote}
 use Rattle.frame.specs.declared.answer.Wrote.the-variants.{Bytes as BytesWrote, Refused as RefusedWrote}
-use Rattle.frame.specs.Message.{Message, put, get, del, repl, ok, value, notFound, err, timeFault, keyFault, valueFault, argumentFault, messageRefusal, InRange}
+use Rattle.frame.specs.Message.{Message, timeFault, keyFault, valueFault, argumentFault, messageRefusal, InRange}
 use Rattle.frame.specs.Layout.{counted, stampBytes, typeOf, body, envelope, frameOf}
-use Rattle.frame.specs.Reading.{Outcome, message, refused, numberAt, envelopeHolds, typeIn, bodyIn, klen, keyIn, valueIn, stampIn, entryIn, keyEnds, valueEnds, outcomeOf, readBody, readFrame}
-use Rattle.frame.specs.Writing.{bytes, answerOf, writeRefusal, writeAnswer, afterWrite}
-use Rattle.frame.specs.Meaning.{WrittenReadsBack, ReadWritesBack, ReadIsTaken, FrameAtMost600, WrittenInto600}
-use Rattle.wire.proofs.Fields.{bytes-field}
-use Rattle.frame.proofs.Fields.{field-join, field-all, number-lt, be-number}
-use Rattle.frame.proofs.Envelopes.{length-envelope, envelope-reads, envelope-writes}
+use Rattle.frame.specs.Reading.{message, messageIn, meaning, numberAt, envelopeHolds, typeIn, klen, vlen, stampIn, endsAt, keyEnds, valueEnds, judgedAs, checked, readBody, readAnswer, readFrame}
+use Rattle.frame.specs.Writing.{bytes, answerOf, writeRefusal, writeAnswer, afterWrite, Writes}
+use Rattle.frame.specs.Meaning.{Within, ReadLiesWithin, ReadHasType, WrittenReadsBack, ReadWritesBack, ReadIsTaken, FrameAtMost600, WrittenWhole, FrontReadsBack}
+use Rattle.frame.proofs.Fields.{field-join, number-lt, be-number}
+use Rattle.frame.proofs.Envelopes.{length-envelope, framed, envelope-reads, envelope-writes}
 use Rattle.frame.proofs.Bodies.{taken, body-short, body-reads}
+use Rattle.frame.proofs.ByType.{putIn, replIn, by-type}
+use Rattle.frame.proofs.Answers.{ends-length}
 
+-- ---- what was written
 pub written-reads-back : WrittenReadsBack
-unfolding frameOf
+unfolding readFrame frameOf
 written-reads-back m h i =
     let t = taken m h in
-    envelope-reads (typeOf m) (body m) (body-short m t) ∙ body-reads m t i
+    let s = envelope (typeOf m) (body m) in
+    ap (meaning s) (envelope-reads (typeOf m) (body m) (body-short m t)) ∙ body-reads m s (framed (typeOf m) (body m)) t i
 
 pub frame-at-most-600 : FrameAtMost600
 unfolding frameOf
 frame-at-most-600 m h = omega (arith, length-envelope (typeOf m) (body m), body-short m (taken m h))
 
--- ---- the parts of a body, written again
-isMessage : Outcome → Bool
-isMessage (message m) = true
-isMessage (refused n) = false
+-- ---- what was read
+-- a message that uses up the body, and has no fault
+pub record Clean (s : List ℕ) (w : Bool) (l : Located) : Type 0 where
+  pub used-up : w ≡ true
+  pub argument : argumentFault (messageIn s l) ≡ false
+  pub key : keyFault (messageIn s l) ≡ false
+  pub value : valueFault (messageIn s l) ≡ false
 
-no-message : {A : Type 0} (n : ℕ) (m : Message) → refused n ≡ message m → A
-unfolding isMessage
-no-message n m h = clash refl (sym (ap isMessage h))
-
--- a body that says a message is well formed, and the message has no fault of key or value
-said : (w : Bool) (m′ m : Message) → outcomeOf w m′ ≡ message m → (w ≡ true) × (m′ ≡ m) × (keyFault m′ ≡ false) × (valueFault m′ ≡ false)
-unfolding outcomeOf
-said w m′ m h = elim (test w) [
-  | inl p ↦ elim (test (keyFault m′)) [
-    | inl q ↦ no-message 1 m (rw (p, q) at h)
-    | inr q ↦ elim (test (valueFault m′)) [
-      | inl r ↦ no-message 2 m (rw (p, q, r) at h)
-      | inr r ↦ let e : message m′ ≡ message m = rw (p, q, r) at h in (p, cc, q, r)
-    ]
-  ]
-  | inr p ↦ no-message 3 m (rw p at h)
-]
-
--- a body of a type, read as a message
-pub record Again (t : ℕ) (b : List ℕ) (m : Message) : Type 0 where
-  pub type : typeOf m ≡ t
-  pub same : body m ≡ b
-  pub taken : messageRefusal m ≡ 0
-  pub range : InRange m
-
--- what is left to check of a well formed message
-pub record Rest (m : Message) : Type 0 where
-  pub time : timeFault m ≡ false
-  pub argument : argumentFault m ≡ false
-  pub range : InRange m
-
-module _ (b : List ℕ) (bs : Bytes b) where
-  -- a byte string with its length before it
-  counted-again : (at w : ℕ) → at + w + numberAt at w b ≤ length b → counted w (field (at + w) (numberAt at w b) b) ≡ field at (w + numberAt at w b) b
-  unfolding counted
-  counted-again at w h =
-      ap (λ (n : ℕ). be w n ++ field (at + w) (numberAt at w b) b) (length-field (at + w) (numberAt at w b) b h)
-      ∙ ap (λ (r : List ℕ). r ++ field (at + w) (numberAt at w b) b) (be-number b bs at w (omega arith))
-      ∙ field-join at w (at + w) (numberAt at w b) b refl
-
-  key-again : klen b + 1 ≤ length b → counted 1 (keyIn b) ≡ field 0 (1 + klen b) b
-  unfolding klen keyIn
-  key-again h = counted-again 0 1 (omega arith)
-
-  value-again : (at : ℕ) → valueEnds at b ≡ true → (counted 2 (valueIn at b) ≡ field at (2 + numberAt at 2 b) b) × (length b ≡ at + 2 + numberAt at 2 b)
-  unfolding valueEnds valueIn
-  value-again at h =
-      let e = eqb-true (length b) (at + 2 + numberAt at 2 b) h in
-      (counted-again at 2 (omega arith), e)
-
-  put-again : valueEnds (klen b + 1) b ≡ true → body (put (keyIn b) (valueIn (klen b + 1) b)) ≡ b
-  unfolding body
-  put-again h =
-      let v = value-again (klen b + 1) h in
-      let n = v .1 in
-      ap₂ (λ (x y : List ℕ). x ++ y) (key-again (omega arith)) (v .0)
-      ∙ field-join 0 (1 + klen b) (klen b + 1) (2 + numberAt (klen b + 1) 2 b) b (omega arith)
-      ∙ field-all _ b (omega arith)
-
-  key-alone-again : keyEnds b ≡ true → counted 1 (keyIn b) ≡ b
-  unfolding keyEnds
-  key-alone-again h =
-      let n = eqb-true (length b) (klen b + 1) h in
-      key-again (omega arith) ∙ field-all (1 + klen b) b (omega arith)
-
-  stamp-again : (at : ℕ) → at + 9 ≤ length b → stampBytes (stampIn at b) ≡ field at 9 b
-  unfolding stampBytes stampIn
-  stamp-again at h =
-      ap₂ (λ (x y : List ℕ). x ++ y ++ be 1 (numberAt (at + 8) 1 b)) (be-number b bs at 6 (omega arith)) (be-number b bs (at + 6) 2 (omega arith))
-      ∙ ap₂ (λ (x y : List ℕ). x ++ y) (field-join at 6 (at + 6) 2 b refl) (be-number b bs (at + 8) 1 (omega arith))
-      ∙ field-join at 8 (at + 8) 1 b refl
-
-  repl-again : valueEnds (klen b + 11) b ≡ true → body (repl (entryIn b)) ≡ b
-  unfolding body entryIn
-  repl-again h =
-      let v = value-again (klen b + 11) h in
-      let n = v .1 in
-      ap₂ (λ (x y : List ℕ). x ++ y ++ stampBytes (stampIn (klen b + 2) b) ++ counted 2 (valueIn (klen b + 11) b)) (key-again (omega arith)) (be-number b bs (klen b + 1) 1 (omega arith))
-      ∙ ap₂ (λ (x y : List ℕ). x ++ y ++ counted 2 (valueIn (klen b + 11) b)) (field-join 0 (1 + klen b) (klen b + 1) 1 b (omega arith)) (stamp-again (klen b + 2) (omega arith))
-      ∙ ap₂ (λ (x y : List ℕ). x ++ y) (field-join 0 (1 + klen b + 1) (klen b + 2) 9 b (omega arith)) (v .0)
-      ∙ field-join 0 (1 + klen b + 1 + 9) (klen b + 11) (2 + numberAt (klen b + 11) 2 b) b (omega arith)
-      ∙ field-all _ b (omega arith)
-
-  alone-again : valueEnds 0 b ≡ true → counted 2 (valueIn 0 b) ≡ b
-  alone-again h =
-      let v = value-again 0 h in
-      let n = v .1 in
-      v .0 ∙ field-all _ b (omega arith)
-
-  empty-again : eqb (length b) 0 ≡ true → [] ≡ b
-  unfolding field
-  empty-again h = field-all 0 b (eqb-true (length b) 0 h)
-
-  err-again : eqb (length b) 1 ≡ true → be 1 (numberAt 0 1 b) ≡ b
-  err-again h =
-      let n = eqb-true (length b) 1 h in
-      be-number b bs 0 1 (omega arith) ∙ field-all 1 b n
-
-  repl-rest : valueEnds (klen b + 11) b && not (badFlag (entryIn b)) ≡ true → Rest (repl (entryIn b))
-  unfolding timeFault argumentFault entryIn stampIn
-  repl-rest h =
-      let a = and-true (valueEnds (klen b + 11) b) (not (badFlag (entryIn b))) h in
-      let n = value-again (klen b + 11) (a .0) .1 in
-      record {
-        time = lt-leb (2 ^ 48) (numberAt (klen b + 2) 6 b) (number-lt b bs (klen b + 2) 6 (omega arith));
-        argument = not-true (badFlag (entryIn b)) (a .1);
-        range = (number-lt b bs (klen b + 2 + 6) 2 (omega arith), number-lt b bs (klen b + 2 + 8) 1 (omega arith));
-      }
-
-  err-rest : eqb (length b) 1 && not (eqb (numberAt 0 1 b) 0) ≡ true → Rest (err (numberAt 0 1 b))
-  unfolding timeFault argumentFault
-  err-rest h =
-      let a = and-true (eqb (length b) 1) (not (eqb (numberAt 0 1 b) 0)) h in
-      let n = eqb-true (length b) 1 (a .0) in
-      let l = number-lt b bs 0 1 (omega arith) in
-      record { time = refl; argument = rw (not-true (eqb (numberAt 0 1 b) 0) (a .1), le-ltb 255 (numberAt 0 1 b) (omega arith)); range = tt }
-
-  -- a body that is read as a message is the body of that message, of its type, and a writer takes it
-  case : (t c : ℕ) (w : Bool) (m′ m : Message) → eqb t c ≡ true → typeOf m′ ≡ c → (w ≡ true → body m′ ≡ b) → (w ≡ true → Rest m′) → outcomeOf w m′ ≡ message m → Again t b m
-  unfolding messageRefusal
-  case t c w m′ m p q again rest h =
-      let s = said w m′ m h in
-      let r = rest (s .0) in
-      rw (← s .1) (record {
-        type = q ∙ sym (eqb-true t c p);
-        same = again (s .0);
-        taken = rw (r .time, s .2, s .3, r .argument);
-        range = r .range;
-      })
-
-  body-again : (t : ℕ) (m : Message) → readBody t b ≡ message m → Again t b m
-  unfolding readBody typeOf body timeFault argumentFault
-  body-again t m h = elim (test (eqb t 1)) [
-    | inl p ↦ case t 1 _ (put (keyIn b) (valueIn (klen b + 1) b)) m p refl put-again (λ w. record { time = refl; argument = refl; range = tt }) (rw p at h)
-    | inr p1 ↦ elim (test (eqb t 2)) [
-      | inl p ↦ case t 2 _ (get (keyIn b)) m p refl key-alone-again (λ w. record { time = refl; argument = refl; range = tt }) (rw (p1, p) at h)
-      | inr p2 ↦ elim (test (eqb t 3)) [
-        | inl p ↦ case t 3 _ (del (keyIn b)) m p refl key-alone-again (λ w. record { time = refl; argument = refl; range = tt }) (rw (p1, p2, p) at h)
-        | inr p3 ↦ elim (test (eqb t 4)) [
-          | inl p ↦ case t 4 _ (repl (entryIn b)) m p refl (λ w. repl-again (and-true _ _ w .0)) repl-rest (rw (p1, p2, p3, p) at h)
-          | inr p4 ↦ elim (test (eqb t 16)) [
-            | inl p ↦ case t 16 _ ok m p refl empty-again (λ w. record { time = refl; argument = refl; range = tt }) (rw (p1, p2, p3, p4, p) at h)
-            | inr p16 ↦ elim (test (eqb t 17)) [
-              | inl p ↦ case t 17 _ (value (valueIn 0 b)) m p refl alone-again (λ w. record { time = refl; argument = refl; range = tt }) (rw (p1, p2, p3, p4, p16, p) at h)
-              | inr p17 ↦ elim (test (eqb t 18)) [
-                | inl p ↦ case t 18 _ notFound m p refl empty-again (λ w. record { time = refl; argument = refl; range = tt }) (rw (p1, p2, p3, p4, p16, p17, p) at h)
-                | inr p18 ↦ elim (test (eqb t 20)) [
-                  | inl p ↦ case t 20 _ (err (numberAt 0 1 b)) m p refl (λ w. err-again (and-true _ _ w .0)) err-rest (rw (p1, p2, p3, p4, p16, p17, p18, p) at h)
-                  | inr p20 ↦ no-message 3 m (rw (p1, p2, p3, p4, p16, p17, p18, p20) at h)
-                ]
-              ]
-            ]
-          ]
-        ]
+-- is answered; any other is refused
+cases : (s : List ℕ) (w : Bool) (l : Located) → (Clean s w l × (checked s w l ≡ Said l)) ⊎ ((r : Refusal) × (checked s w l ≡ Refused r))
+unfolding checked judgedAs
+cases s w l = elim (test w) [
+  | inl p ↦ elim (test (argumentFault (messageIn s l))) [
+    | inl a ↦ inr (BadFrame, rw (p, a))
+    | inr a ↦ elim (test (keyFault (messageIn s l))) [
+      | inl k ↦ inr (BadKey, rw (p, a, k))
+      | inr k ↦ elim (test (valueFault (messageIn s l))) [
+        | inl v ↦ inr (ValueTooLarge, rw (p, a, k, v))
+        | inr v ↦ inl (record { used-up = p; argument = a; key = k; value = v }, rw (p, a, k, v))
       ]
     ]
   ]
+  | inr p ↦ inr (BadFrame, rw p)
+]
 
--- ---- a frame that is read as a message
-module _ (s : List ℕ) (m : Message) (bs : Bytes s) (h : readFrame s ≡ message m) where
-  read-holds : envelopeHolds s ≡ true
-  unfolding readFrame
-  read-holds = elim (test (envelopeHolds s)) [ inl p ↦ p | inr p ↦ no-message 3 m (rw p at h) ]
+-- the message of an answer
+module _ (s : List ℕ) (m : Message) where
+  no-message : {A : Type 0} (r : Refusal) → meaning s (Refused r) ≡ message m → A
+  no-message r h = let z : _≡_ {A = ℕ} 0 1 = cc in absurd (omega arith)
 
-  read-again : Again (typeIn s) (bodyIn s) m
-  unfolding readFrame bodyIn
-  read-again = body-again (bodyIn s) (bytes-field 4 (length s - 8) s bs) (typeIn s) m (rw read-holds at h)
+  said : (w : Bool) (l : Located) → meaning s (checked s w l) ≡ message m → Clean s w l × (messageIn s l ≡ m)
+  said w l h = elim (cases s w l) [
+    | inl c ↦ let e : message (messageIn s l) ≡ message m = rw (c .1) at h in (c .0, cc)
+    | inr c ↦ no-message (c .0) (rw (c .1) at h)
+  ]
+
+  -- its type is the frame's
+  has-type : (t c : ℕ) (w : Bool) (l : Located) → typeOf (messageIn s l) ≡ c → t ≡ c → meaning s (checked s w l) ≡ message m → typeOf m ≡ t
+  has-type t c w l q e h = ap typeOf (sym (said w l h .1)) ∙ q ∙ sym e
+
+  type-by-type : (t : ℕ) → meaning s (readBody t s) ≡ message m → typeOf m ≡ t
+  unfolding typeOf
+  type-by-type t = by-type (λ r. meaning s r ≡ message m → typeOf m ≡ t) s t (record {
+    put = has-type t 1 _ (putIn s) refl;
+    get = has-type t 2 _ (Get 5 (klen s)) refl;
+    del = has-type t 3 _ (Del 5 (klen s)) refl;
+    repl = has-type t 4 _ (replIn s) refl;
+    ok = has-type t 16 _ Ok refl;
+    value = has-type t 17 _ (Value 6 (vlen 4 s)) refl;
+    not-found = has-type t 18 _ NotFound refl;
+    err = has-type t 20 _ (Err (numberAt 4 1 s)) refl;
+    unknown = no-message BadFrame;
+  })
+
+  module _ (h : readFrame s ≡ message m) where
+    read-holds : envelopeHolds s ≡ true
+    unfolding readFrame readAnswer
+    read-holds = elim (test (envelopeHolds s)) [ inl p ↦ p | inr p ↦ no-message BadFrame (rw p at h) ]
+
+    read-body : meaning s (readBody (typeIn s) s) ≡ message m
+    unfolding readFrame readAnswer
+    read-body = rw read-holds at h
+
+pub read-has-type : ReadHasType
+read-has-type s m h = type-by-type s m (typeIn s) (read-body s m h)
+
+module _ (s : List ℕ) (m : Located) where
+  not-said : {A : Type 0} (r : Refusal) → Refused r ≡ Said m → A
+  not-said r h = let z : _≡_ {A = ℕ} 0 1 = cc in absurd (omega arith)
+
+  -- its parts lie within the frame
+  lies : (w : Bool) (l : Located) → (w ≡ true → Within s l) → checked s w l ≡ Said m → Within s m
+  lies w l k h = elim (cases s w l) [
+    | inl c ↦ let e : l ≡ m = cc in rw (← e) (k (c .0 .used-up))
+    | inr c ↦ not-said (c .0) (sym (c .1) ∙ h)
+  ]
+
+  lies-by-type : (t : ℕ) → readBody t s ≡ Said m → Within s m
+  unfolding keyEnds endsAt
+  lies-by-type t = by-type (λ r. r ≡ Said m → Within s m) s t (record {
+    put = λ e. lies _ (putIn s) (λ w. let n = ends-length (klen s + 5) (klen s + 7) s (omega arith) w in (omega arith, omega arith));
+    get = λ e. lies _ (Get 5 (klen s)) (λ w. omega (arith, eqb-true (length s) (klen s + 5 + 4) w));
+    del = λ e. lies _ (Del 5 (klen s)) (λ w. omega (arith, eqb-true (length s) (klen s + 5 + 4) w));
+    repl = λ e. lies _ (replIn s) (λ w. let n = ends-length (klen s + 15) (klen s + 17) s (omega arith) w in (omega arith, omega arith));
+    ok = λ e. lies _ Ok (λ w. tt);
+    value = λ e. lies _ (Value 6 (vlen 4 s)) (λ w. omega (arith, ends-length 4 6 s refl w));
+    not-found = λ e. lies _ NotFound (λ w. tt);
+    err = λ e. lies _ (Err (numberAt 4 1 s)) (λ w. tt);
+    unknown = not-said BadFrame;
+  })
+
+pub read-lies-within : ReadLiesWithin
+unfolding readAnswer
+read-lies-within s m h = elim (test (envelopeHolds s)) [
+  | inl p ↦ lies-by-type s m (typeIn s) (rw p at h)
+  | inr p ↦ not-said s m BadFrame (rw p at h)
+]
+
+-- ---- and written again
+-- the body of a message that was read is that of the frame, and a writer takes it
+pub record Again (s : List ℕ) (m : Message) : Type 0 where
+  pub same : body m ≡ field 4 (length s - 8) s
+  pub taken : messageRefusal m ≡ 0
+  pub range : InRange m
+
+-- what is left to check of a message without faults
+pub record Rest (m : Message) : Type 0 where
+  pub time : timeFault m ≡ false
+  pub range : InRange m
+
+module _ (s : List ℕ) (bs : Bytes s) where
+  -- a byte string with its length before it
+  counted-again : (at w : ℕ) → at + w + numberAt at w s ≤ length s → counted w (field (at + w) (numberAt at w s) s) ≡ field at (w + numberAt at w s) s
+  unfolding counted
+  counted-again at w h =
+      ap (λ (n : ℕ). be w n ++ field (at + w) (numberAt at w s) s) (length-field (at + w) (numberAt at w s) s h)
+      ∙ ap (λ (r : List ℕ). r ++ field (at + w) (numberAt at w s) s) (be-number s bs at w (omega arith))
+      ∙ field-join at w (at + w) (numberAt at w s) s refl
+
+  key-again : klen s + 5 ≤ length s → counted 1 (field 5 (klen s) s) ≡ field 4 (1 + klen s) s
+  unfolding klen
+  key-again h = counted-again 4 1 (omega arith)
+
+  value-again : (at va : ℕ) → at + 2 ≡ va → va + vlen at s ≤ length s → counted 2 (field va (vlen at s) s) ≡ field at (2 + vlen at s) s
+  unfolding vlen
+  value-again at va e h = rw (← e) (counted-again at 2 (omega arith))
+
+  stamp-again : (at : ℕ) → at + 9 ≤ length s → stampBytes (stampIn at s) ≡ field at 9 s
+  unfolding stampBytes stampIn
+  stamp-again at h =
+      ap₂ (λ (x y : List ℕ). x ++ y ++ be 1 (numberAt (at + 8) 1 s)) (be-number s bs at 6 (omega arith)) (be-number s bs (at + 6) 2 (omega arith))
+      ∙ ap₂ (λ (x y : List ℕ). x ++ y) (field-join at 6 (at + 6) 2 s refl) (be-number s bs (at + 8) 1 (omega arith))
+      ∙ field-join at 8 (at + 8) 1 s refl
+
+  -- the body of n bytes
+  whole : (n : ℕ) → length s ≡ n + 8 → field 4 n s ≡ field 4 (length s - 8) s
+  whole n h = let e : n ≡ length s - 8 = omega arith in ap (λ (w : ℕ). field 4 w s) e
+
+  put-again : valueEnds (klen s + 5) s ≡ true → body (messageIn s (putIn s)) ≡ field 4 (length s - 8) s
+  unfolding body
+  put-again h =
+      let n = ends-length (klen s + 5) (klen s + 7) s (omega arith) h in
+      ap₂ (λ (x y : List ℕ). x ++ y) (key-again (omega arith)) (value-again (klen s + 5) (klen s + 7) (omega arith) (omega arith))
+      ∙ field-join 4 (1 + klen s) (klen s + 5) (2 + vlen (klen s + 5) s) s (omega arith) ∙ whole _ (omega arith)
+
+  key-alone-again : keyEnds s ≡ true → counted 1 (field 5 (klen s) s) ≡ field 4 (length s - 8) s
+  unfolding keyEnds endsAt
+  key-alone-again h = let n = eqb-true (length s) (klen s + 5 + 4) h in key-again (omega arith) ∙ whole (1 + klen s) (omega arith)
+
+  repl-again : valueEnds (klen s + 15) s ≡ true → body (messageIn s (replIn s)) ≡ field 4 (length s - 8) s
+  unfolding body
+  repl-again h =
+      let v : List ℕ = counted 2 (field (klen s + 17) (vlen (klen s + 15) s) s) in
+      let n = ends-length (klen s + 15) (klen s + 17) s (omega arith) h in
+      ap₂ (λ (x y : List ℕ). x ++ y ++ stampBytes (stampIn (klen s + 6) s) ++ v) (key-again (omega arith)) (be-number s bs (klen s + 5) 1 (omega arith))
+      ∙ ap₂ (λ (x y : List ℕ). x ++ y ++ v) (field-join 4 (1 + klen s) (klen s + 5) 1 s (omega arith)) (stamp-again (klen s + 6) (omega arith))
+      ∙ ap₂ (λ (x y : List ℕ). x ++ y) (field-join 4 (1 + klen s + 1) (klen s + 6) 9 s (omega arith)) (value-again (klen s + 15) (klen s + 17) (omega arith) (omega arith))
+      ∙ field-join 4 (1 + klen s + 1 + 9) (klen s + 15) (2 + vlen (klen s + 15) s) s (omega arith) ∙ whole _ (omega arith)
+
+  value-alone-again : valueEnds 4 s ≡ true → counted 2 (field 6 (vlen 4 s) s) ≡ field 4 (length s - 8) s
+  value-alone-again h = let n = ends-length 4 6 s refl h in value-again 4 6 refl (omega arith) ∙ whole (2 + vlen 4 s) (omega arith)
+
+  empty-again : endsAt 4 s ≡ true → [] ≡ field 4 (length s - 8) s
+  unfolding endsAt field
+  empty-again h = whole 0 (eqb-true (length s) 8 h)
+
+  err-again : endsAt 5 s ≡ true → be 1 (numberAt 4 1 s) ≡ field 4 (length s - 8) s
+  unfolding endsAt
+  err-again h = let n = eqb-true (length s) 9 h in be-number s bs 4 1 (omega arith) ∙ whole 1 n
+
+  repl-rest : valueEnds (klen s + 15) s ≡ true → Rest (messageIn s (replIn s))
+  unfolding timeFault stampIn
+  repl-rest h =
+      let n = ends-length (klen s + 15) (klen s + 17) s (omega arith) h in
+      record {
+        time = lt-leb (2 ^ 48) (numberAt (klen s + 6) 6 s) (number-lt s bs (klen s + 6) 6 (omega arith));
+        range = (number-lt s bs (klen s + 6 + 6) 2 (omega arith), number-lt s bs (klen s + 6 + 8) 1 (omega arith));
+      }
+
+  module _ (m : Message) where
+    again : (w : Bool) (l : Located) → (w ≡ true → body (messageIn s l) ≡ field 4 (length s - 8) s) → (w ≡ true → Rest (messageIn s l))
+        → meaning s (checked s w l) ≡ message m → Again s m
+    unfolding messageRefusal
+    again w l same rest h =
+        let (a, e) = said s m w l h in
+        let r = rest (a .used-up) in
+        rw (← e) (record { same = same (a .used-up); taken = rw (r .time, a .key, a .value, a .argument); range = r .range })
+
+    again-by-type : (t : ℕ) → meaning s (readBody t s) ≡ message m → Again s m
+    unfolding body timeFault
+    again-by-type t = by-type (λ r. meaning s r ≡ message m → Again s m) s t (record {
+      put = λ e. again _ (putIn s) put-again (λ w. record { time = refl; range = tt });
+      get = λ e. again _ (Get 5 (klen s)) key-alone-again (λ w. record { time = refl; range = tt });
+      del = λ e. again _ (Del 5 (klen s)) key-alone-again (λ w. record { time = refl; range = tt });
+      repl = λ e. again _ (replIn s) repl-again repl-rest;
+      ok = λ e. again _ Ok empty-again (λ w. record { time = refl; range = tt });
+      value = λ e. again _ (Value 6 (vlen 4 s)) value-alone-again (λ w. record { time = refl; range = tt });
+      not-found = λ e. again _ NotFound empty-again (λ w. record { time = refl; range = tt });
+      err = λ e. again _ (Err (numberAt 4 1 s)) err-again (λ w. record { time = refl; range = tt });
+      unknown = no-message s m BadFrame;
+    })
+
+read-again : (s : List ℕ) (m : Message) → Bytes s → readFrame s ≡ message m → Again s m
+read-again s m bs h = again-by-type s bs m (typeIn s) (read-body s m h)
 
 pub read-writes-back : ReadWritesBack
 unfolding frameOf
 read-writes-back s m bs h =
     let r = read-again s m bs h in
-    ap₂ envelope (r .type) (r .same) ∙ envelope-writes s bs (read-holds s m bs h)
+    ap₂ envelope (read-has-type s m h) (r .same) ∙ envelope-writes s bs (read-holds s m h)
 
 pub read-is-taken : ReadIsTaken
 read-is-taken s m bs h = let r = read-again s m bs h in (r .taken, r .range)
 
--- ---- a buffer that has room for every frame
-isBytes : (r : Wrote) (n : ℕ) → answerOf r ≡ bytes n → r ≡ BytesWrote n
-isBytes (BytesWrote k) n h = cc
-isBytes (RefusedWrote k) n h = cc
+-- ---- a buffer
+is-bytes : (r : Wrote) (n : ℕ) → answerOf r ≡ bytes n → r ≡ BytesWrote n
+is-bytes (BytesWrote k) n h = cc
+is-bytes (RefusedWrote k) n h = cc
 
-pub written-into-600 : WrittenInto600
+pub written-whole : WrittenWhole
 unfolding writeAnswer afterWrite writeRefusal
-written-into-600 m out r after h l w =
-    let n = le-ltb (length out) (length (frameOf m)) (omega (arith, frame-at-most-600 m h)) in
-    (isBytes r _ (w .answer ∙ rw (h, n)), w .buffer ∙ rw (h, n))
+written-whole m out r after h l w =
+    let n = le-ltb (length out) (length (frameOf m)) l in
+    (is-bytes r _ (w .answer ∙ rw (h, n)), w .buffer ∙ rw (h, n))
+
+-- an answer that counts bytes is that of a message that is taken, in a buffer with room
+counted-bytes : (m : Message) (out : List ℕ) (n : ℕ) (after : List ℕ) → Writes m out (BytesWrote n) after → (messageRefusal m ≡ 0) × (length (frameOf m) ≤ length out)
+unfolding writeAnswer writeRefusal
+counted-bytes m out n after w =
+    let a = w .answer in
+    elim (test (eqb (messageRefusal m) 0)) [
+      | inl p ↦ elim (test (ltb (length out) (length (frameOf m)))) [
+        | inl q ↦ let z : _≡_ {A = ℕ} 0 1 = cc (rw (p, q) at a) in absurd (omega arith)
+        | inr q ↦ (eqb-true _ 0 p, ltb-false (length out) (length (frameOf m)) q)
+      ]
+      | inr p ↦ let z : _≡_ {A = ℕ} 0 1 = cc (rw (p, p) at a) in absurd (omega arith)
+    ]
+
+pub front-reads-back : FrontReadsBack
+front-reads-back m out n after i w =
+    let k = counted-bytes m out n after w in
+    let f = written-whole m out (BytesWrote n) after (k .0) (k .1) w in
+    let e : n ≡ length (frameOf m) = cc in
+    ap readFrame (rw (e, f .1) (take-at (frameOf m) (drop (length (frameOf m)) out) (length (frameOf m)) refl)) ∙ written-reads-back m (k .0) i

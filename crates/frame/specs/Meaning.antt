@@ -1,15 +1,38 @@
 -- The theorems on reading and writing.
-use Prim.Native.Nat.{ℕ, _≤_}
+use Prim.Native.Nat.{ℕ, _+_, _≤_}
 use mathlib.Core.Path.{_≡_}
 use mathlib.Core.List.{List, _++_}
-use lib.ListN.{length, drop}
+use lib.ListN.{length, take, drop}
 use Rattle.wire.specs.Number.{Bytes}
+use Rattle.frame.specs.declared.answer.Message.{Message as Located}
+use Rattle.frame.specs.declared.answer.Message.the-variants.{Put, Get, Del, Repl, Ok, Value, NotFound, Err}
+use Rattle.frame.specs.declared.answer.Read.the-variants.{Message as Said}
 use Rattle.frame.specs.declared.answer.Wrote.{Wrote}
 use Rattle.frame.specs.declared.answer.Wrote.the-variants.{Bytes as BytesWrote}
 use Rattle.frame.specs.Message.{Message, messageRefusal, InRange}
-use Rattle.frame.specs.Layout.{frameOf}
-use Rattle.frame.specs.Reading.{message, readFrame}
+use Rattle.frame.specs.Layout.{typeOf, frameOf}
+use Rattle.frame.specs.Reading.{message, typeIn, readAnswer, readFrame}
 use Rattle.frame.specs.Writing.{Writes}
+
+-- ---- reading
+-- the key and the value of a message lie within the frame
+abbrev pub Within : List ℕ → Located → Type 0
+Within s (Put ka kl va vl) = (ka + kl ≤ length s) × (va + vl ≤ length s)
+Within s (Get ka kl) = ka + kl ≤ length s
+Within s (Del ka kl) = ka + kl ≤ length s
+Within s (Repl ka kl va vl f stamp) = (ka + kl ≤ length s) × (va + vl ≤ length s)
+Within s Ok = Unit {0}
+Within s (Value va vl) = va + vl ≤ length s
+Within s NotFound = Unit {0}
+Within s (Err n) = Unit {0}
+
+-- so do those of every message that the reader answers
+abbrev pub ReadLiesWithin : Type 0
+ReadLiesWithin = (s : List ℕ) (m : Located) → readAnswer s ≡ Said m → Within s m
+
+-- a frame reads as a message of its TYPE
+abbrev pub ReadHasType : Type 0
+ReadHasType = (s : List ℕ) (m : Message) → readFrame s ≡ message m → typeOf m ≡ typeIn s
 
 -- what was written reads back as the same message, for every message that a writer takes
 abbrev pub WrittenReadsBack : Type 0
@@ -23,11 +46,16 @@ ReadWritesBack = (s : List ℕ) (m : Message) → Bytes s → readFrame s ≡ me
 abbrev pub ReadIsTaken : Type 0
 ReadIsTaken = (s : List ℕ) (m : Message) → Bytes s → readFrame s ≡ message m → (messageRefusal m ≡ 0) × InRange m
 
+-- ---- writing
 -- a frame that a writer makes is at most 600 bytes long
 abbrev pub FrameAtMost600 : Type 0
 FrameAtMost600 = (m : Message) → messageRefusal m ≡ 0 → length (frameOf m) ≤ 600
 
--- so a message that a writer takes is written whole into a buffer of 600 bytes or more
-abbrev pub WrittenInto600 : Type 0
-WrittenInto600 = (m : Message) (out : List ℕ) (r : Wrote) (after : List ℕ) → messageRefusal m ≡ 0 → 600 ≤ length out → Writes m out r after
+-- a message that a writer takes is written whole to the front of any buffer with room for its frame
+abbrev pub WrittenWhole : Type 0
+WrittenWhole = (m : Message) (out : List ℕ) (r : Wrote) (after : List ℕ) → messageRefusal m ≡ 0 → length (frameOf m) ≤ length out → Writes m out r after
     → (r ≡ BytesWrote (length (frameOf m))) × (after ≡ frameOf m ++ drop (length (frameOf m)) out)
+
+-- what a writer leaves at the front of a buffer, as many bytes as it says, reads back as the message
+abbrev pub FrontReadsBack : Type 0
+FrontReadsBack = (m : Message) (out : List ℕ) (n : ℕ) (after : List ℕ) → InRange m → Writes m out (BytesWrote n) after → readFrame (take n after) ≡ message m

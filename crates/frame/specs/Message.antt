@@ -1,7 +1,7 @@
 -- The messages, and which of them are refused.
 use Prim.Native.Nat.{ℕ, _^_, _<_}
 use mathlib.Core.Bool.{Bool, false, cond, _||_}
-use mathlib.Core.List.{List}
+use mathlib.Core.List.{List, []}
 use lib.ListN.{length}
 use lib.Dec.{ltb, eqb}
 use Rattle.entry.specs.Key.{badKey}
@@ -17,6 +17,27 @@ pub data Message : Type 0 where
   value : List ℕ → Message
   notFound : Message
   err : ℕ → Message
+
+-- the key of a message, and its value; empty where it has none
+abbrev pub keyOf : Message → List ℕ
+keyOf (put k v) = k
+keyOf (get k) = k
+keyOf (del k) = k
+keyOf (repl e) = e .key
+keyOf ok = []
+keyOf (value v) = []
+keyOf notFound = []
+keyOf (err n) = []
+
+abbrev pub valueOf : Message → List ℕ
+valueOf (put k v) = v
+valueOf (get k) = []
+valueOf (del k) = []
+valueOf (repl e) = e .value
+valueOf ok = []
+valueOf (value v) = v
+valueOf notFound = []
+valueOf (err n) = []
 
 -- a time is out of range (9)
 unfoldable pub timeFault : Message → Bool

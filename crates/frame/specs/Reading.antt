@@ -1,8 +1,7 @@
--- What a frame says, for any bytes.
--- A frame rule that is broken is refusal 3, whatever else is wrong. The rules are looked at in this order: LEN, the checksum, FLAGS, TYPE, and then
--- whether the body is used up exactly and its flag and ERR number are in range. In a body that keeps them all, the key (1) comes before the value (2).
-use Prim.Native.Nat.{ℕ, _+_, _-_, _≤_}
-use mathlib.Core.Path.{_≡_}
+-- What a frame says, for any bytes. Offsets are those of the frame: the body begins at 4, after LEN, TYPE and FLAGS.
+-- A frame rule that is broken is BAD_FRAME (3), whatever else is wrong. The rules are looked at in this order: LEN, the checksum, FLAGS, TYPE, whether the body
+-- is used up exactly, its flag or its ERR number. In a frame that keeps them all, the key (1) comes before the value (2).
+use Prim.Native.Nat.{ℕ, _+_, _-_}
 use mathlib.Core.Bool.{Bool, cond, not, _&&_}
 use mathlib.Core.List.{List}
 use lib.ListN.{length}
@@ -12,15 +11,34 @@ use Rattle.wire.specs.Fill.{field}
 use Rattle.wire.specs.Order.{sameBytes}
 use Rattle.checksum.specs.Crc32c.{crc32c}
 use Rattle.entry.specs.declared.Stamp.{Stamp}
-use Rattle.entry.specs.Entry.{Entry, entryOf, badFlag}
+use Rattle.entry.specs.declared.Refusal.the-variants.{BadKey, ValueTooLarge, BadFrame}
+use Rattle.entry.specs.Entry.{entryOf}
 use Rattle.entry.specs.Refusal.{number}
+use Rattle.frame.specs.declared.answer.Message.{Message as Located}
+use Rattle.frame.specs.declared.answer.Message.the-variants.{Put, Get, Del, Repl, Ok, Value, NotFound, Err}
 use Rattle.frame.specs.declared.answer.Read.{Read}
-use Rattle.frame.specs.declared.answer.Read.the-variants.{Put, Get, Del, Repl, Ok, Value, NotFound, Err, Refused}
-use Rattle.frame.specs.Message.{Message, put, get, del, repl, ok, value, notFound, err, keyFault, valueFault}
+use Rattle.frame.specs.declared.answer.Read.the-variants.{Message as Said, Refused}
+use Rattle.frame.specs.Message.{Message, put, get, del, repl, ok, value, notFound, err, keyFault, valueFault, argumentFault}
+
+-- ---- what an answer of the reader means
+-- the message whose key and value stand at these offsets of a frame
+abbrev pub messageIn : List ℕ → Located → Message
+messageIn s (Put ka kl va vl) = put (field ka kl s) (field va vl s)
+messageIn s (Get ka kl) = get (field ka kl s)
+messageIn s (Del ka kl) = del (field ka kl s)
+messageIn s (Repl ka kl va vl f stamp) = repl (entryOf (field ka kl s) (field va vl s) f stamp)
+messageIn s Ok = ok
+messageIn s (Value va vl) = value (field va vl s)
+messageIn s NotFound = notFound
+messageIn s (Err n) = err n
 
 pub data Outcome : Type 0 where
   message : Message → Outcome
   refused : ℕ → Outcome
+
+abbrev pub meaning : List ℕ → Read → Outcome
+meaning s (Said m) = message (messageIn s m)
+meaning s (Refused r) = refused (number r)
 
 -- ---- the envelope
 -- the number in w bytes at an offset
@@ -45,98 +63,63 @@ envelopeHolds s = lengthHolds s && checksumHolds s && flagsHold s
 unfoldable pub typeIn : List ℕ → ℕ
 typeIn s = numberAt 2 1 s
 
-unfoldable pub bodyIn : List ℕ → List ℕ
-bodyIn s = field 4 (length s - 8) s
-
--- ---- the parts of a body
+-- ---- the body
+-- klen is the body's first byte
 unfoldable pub klen : List ℕ → ℕ
-klen b = numberAt 0 1 b
+klen s = numberAt 4 1 s
 
-unfoldable pub keyIn : List ℕ → List ℕ
-keyIn b = field 1 (klen b) b
-
--- the value whose vlen stands at an offset
-unfoldable pub valueIn : ℕ → List ℕ → List ℕ
-valueIn at b = field (at + 2) (numberAt at 2 b) b
+-- the vlen that stands at an offset
+unfoldable pub vlen : ℕ → List ℕ → ℕ
+vlen at s = numberAt at 2 s
 
 unfoldable pub stampIn : ℕ → List ℕ → Stamp
-stampIn at b = record { phys = numberAt at 6 b; logical = numberAt (at + 6) 2 b; node = numberAt (at + 8) 1 b }
+stampIn at s = record { phys = numberAt at 6 s; logical = numberAt (at + 6) 2 s; node = numberAt (at + 8) 1 s }
 
-unfoldable pub entryIn : List ℕ → Entry
-entryIn b = entryOf (keyIn b) (valueIn (klen b + 11) b) (numberAt (klen b + 1) 1 b) (stampIn (klen b + 2) b)
+-- the body ends at an offset, where the checksum begins
+unfoldable pub endsAt : ℕ → List ℕ → Bool
+endsAt end s = eqb (length s) (end + 4)
 
 -- the body ends with its key
 unfoldable pub keyEnds : List ℕ → Bool
-keyEnds b = eqb (length b) (klen b + 1)
+keyEnds s = endsAt (klen s + 5) s
 
 -- the body ends with the value whose vlen stands at an offset
 unfoldable pub valueEnds : ℕ → List ℕ → Bool
-valueEnds at b = eqb (length b) (at + 2 + numberAt at 2 b)
+valueEnds at s = endsAt (at + 2 + vlen at s) s
 
--- ---- the message
--- what a body says, by whether it is well formed, and as which message
-unfoldable pub outcomeOf : Bool → Message → Outcome
-outcomeOf wellFormed m =
-    cond wellFormed
-    (cond (keyFault m) (refused 1)
-    (cond (valueFault m) (refused 2)
-    (message m)))
-    (refused 3)
+-- ---- the answer of the reader
+-- a message in a frame that keeps the frame rules, by whether its key and its value are refused
+unfoldable pub judgedAs : Bool → Bool → Located → Read
+judgedAs badKey tooLarge m =
+    cond badKey (Refused BadKey)
+    (cond tooLarge (Refused ValueTooLarge)
+    (Said m))
 
-unfoldable pub readBody : ℕ → List ℕ → Outcome
-readBody t b =
-    cond (eqb t 1) (outcomeOf (valueEnds (klen b + 1) b) (put (keyIn b) (valueIn (klen b + 1) b)))
-    (cond (eqb t 2) (outcomeOf (keyEnds b) (get (keyIn b)))
-    (cond (eqb t 3) (outcomeOf (keyEnds b) (del (keyIn b)))
-    (cond (eqb t 4) (outcomeOf (valueEnds (klen b + 11) b && not (badFlag (entryIn b))) (repl (entryIn b)))
-    (cond (eqb t 16) (outcomeOf (eqb (length b) 0) ok)
-    (cond (eqb t 17) (outcomeOf (valueEnds 0 b) (value (valueIn 0 b)))
-    (cond (eqb t 18) (outcomeOf (eqb (length b) 0) notFound)
-    (cond (eqb t 20) (outcomeOf (eqb (length b) 1 && not (eqb (numberAt 0 1 b) 0)) (err (numberAt 0 1 b)))
-    (refused 3))))))))
+-- a message in a frame whose envelope holds, by whether it uses up the body exactly
+unfoldable pub checked : List ℕ → Bool → Located → Read
+checked s usedUp m =
+    cond (not usedUp) (Refused BadFrame)
+    (cond (argumentFault (messageIn s m)) (Refused BadFrame)
+    (judgedAs (keyFault (messageIn s m)) (valueFault (messageIn s m)) m))
 
+-- a frame whose envelope holds, by its TYPE
+unfoldable pub readBody : ℕ → List ℕ → Read
+readBody t s =
+    cond (eqb t 1) (checked s (valueEnds (klen s + 5) s) (Put 5 (klen s) (klen s + 7) (vlen (klen s + 5) s)))
+    (cond (eqb t 2) (checked s (keyEnds s) (Get 5 (klen s)))
+    (cond (eqb t 3) (checked s (keyEnds s) (Del 5 (klen s)))
+    (cond (eqb t 4) (checked s (valueEnds (klen s + 15) s)
+    (Repl 5 (klen s) (klen s + 17) (vlen (klen s + 15) s) (numberAt (klen s + 5) 1 s) (stampIn (klen s + 6) s)))
+    (cond (eqb t 16) (checked s (endsAt 4 s) Ok)
+    (cond (eqb t 17) (checked s (valueEnds 4 s) (Value 6 (vlen 4 s)))
+    (cond (eqb t 18) (checked s (endsAt 4 s) NotFound)
+    (cond (eqb t 20) (checked s (endsAt 5 s) (Err (numberAt 4 1 s)))
+    (Refused BadFrame))))))))
+
+-- what the reader answers
+unfoldable pub readAnswer : List ℕ → Read
+readAnswer s = cond (envelopeHolds s) (readBody (typeIn s) s) (Refused BadFrame)
+
+-- what a frame says: a message, or the number of a refusal
 unfoldable pub readFrame : List ℕ → Outcome
-readFrame s = cond (envelopeHolds s) (readBody (typeIn s) (bodyIn s)) (refused 3)
-
--- ---- the answer of `read`
--- what a case says of the frame that was read: a key and a value stand at an offset, with a length
-abbrev pub meaning : List ℕ → Read → Outcome
-meaning s (Put ka kl va vl) = message (put (field ka kl s) (field va vl s))
-meaning s (Get ka kl) = message (get (field ka kl s))
-meaning s (Del ka kl) = message (del (field ka kl s))
-meaning s (Repl ka kl va vl f stamp) = message (repl (entryOf (field ka kl s) (field va vl s) f stamp))
-meaning s Ok = message ok
-meaning s (Value va vl) = message (value (field va vl s))
-meaning s NotFound = message notFound
-meaning s (Err n) = message (err n)
-meaning s (Refused r) = refused (number r)
-
--- each part lies within the frame
-abbrev pub Within : List ℕ → Read → Type 0
-Within s (Put ka kl va vl) = (ka + kl ≤ length s) × (va + vl ≤ length s)
-Within s (Get ka kl) = ka + kl ≤ length s
-Within s (Del ka kl) = ka + kl ≤ length s
-Within s (Repl ka kl va vl f stamp) = (ka + kl ≤ length s) × (va + vl ≤ length s)
-Within s Ok = Unit {0}
-Within s (Value va vl) = va + vl ≤ length s
-Within s NotFound = Unit {0}
-Within s (Err n) = Unit {0}
-Within s (Refused r) = Unit {0}
-
--- the offset of each part: a key comes after LEN, TYPE, FLAGS and klen, a value after its vlen
-abbrev pub Offsets : Read → Type 0
-Offsets (Put ka kl va vl) = (ka ≡ 5) × (va ≡ kl + 7)
-Offsets (Get ka kl) = ka ≡ 5
-Offsets (Del ka kl) = ka ≡ 5
-Offsets (Repl ka kl va vl f stamp) = (ka ≡ 5) × (va ≡ kl + 17)
-Offsets Ok = Unit {0}
-Offsets (Value va vl) = va ≡ 6
-Offsets NotFound = Unit {0}
-Offsets (Err n) = Unit {0}
-Offsets (Refused r) = Unit {0}
-
--- the answer r to a frame s means o, its offsets are those of the frame's layout, and its parts lie within the frame
-pub record Reads (s : List ℕ) (r : Read) (o : Outcome) : Type 0 where
-  pub means : meaning s r ≡ o
-  pub offsets : Offsets r
-  pub within : Within s r
+readFrame s = meaning s (readAnswer s)

@@ -2,8 +2,8 @@
 use entry::Refusal;
 use entry::Stamp;
 
-// What a frame says. A key or a value is given by its offset in the frame and its length.
-pub enum Read {
+// A message as it stands in its frame: a key or a value is given by its offset in the frame and its length.
+pub enum Message {
     Put {
         key_at: usize,
         key_len: usize,
@@ -34,6 +34,11 @@ pub enum Read {
     NotFound,
     // the number of a refusal, 1 to 255
     Err(u8),
+}
+
+// What a frame says, or why it is refused.
+pub enum Read {
+    Message(Message),
     Refused(Refusal),
 }
 

@@ -3,6 +3,7 @@ mod answer;
 mod reading;
 mod writing;
 
+pub use answer::Message;
 pub use answer::Read;
 pub use answer::Wrote;
 use entry::ACTIVE;
@@ -25,9 +26,10 @@ use writing::put_pair;
 use writing::seal;
 use writing::write_empty;
 use writing::write_keyed;
+ghost use mathlib.Core.Path.{_≡_};
 ghost use Rattle.entry.specs.Entry.{entryOf};
 ghost use Rattle.frame.specs.Message.{put, get, del, repl, ok, value as valueOf, notFound, err};
-ghost use Rattle.frame.specs.Reading.{Reads, readFrame};
+ghost use Rattle.frame.specs.Reading.{readAnswer};
 ghost use Rattle.frame.specs.Writing.{Writes};
 
 // The longest frame, in bytes.
@@ -52,7 +54,7 @@ const ERR: u8 = 20;
 
 // What exactly one frame says: a message, with the offsets of its key and value in the frame, or the refusal.
 pub fn read(frame: &[u8]) -> Read
-    ensures { λ r. ⌜ Reads (now (frame .entry)) r (readFrame (now (frame .entry))) ⌝ }
+    ensures { λ r. ⌜ r ≡ readAnswer (now (frame .entry)) ⌝ }
 {
     if !envelope_holds(frame) {
         return Read::Refused(Refusal::BadFrame);

@@ -1,16 +1,15 @@
-// The parts of the reader: the envelope, and the bodies. A body is read as a part of its frame, so that offsets are the frame's.
+// The parts of the reader: the envelope, and the bodies. Offsets are those of the frame, whose body begins at 4.
 use crate::GET;
 use crate::MAX_FRAME;
 use crate::OK;
+use crate::answer::Message;
 use crate::answer::Read;
 use checksum::crc32c;
-use entry::ACTIVE;
-use entry::Acceptance;
 use entry::MAX_VALUE;
 use entry::Refusal;
 use entry::Stamp;
 use entry::TOMBSTONE;
-use entry::judge;
+use entry::is_acceptable_key;
 use wire::get_be;
 ghost use mathlib.Core.Path.{_≡_};
 ghost use mathlib.Core.Logic.{_⊎_};
@@ -18,9 +17,11 @@ ghost use mathlib.Core.Bool.{not};
 ghost use mathlib.Core.List.{[]};
 ghost use Prim.Native.Nat.{_+_, _≤_, _<_};
 ghost use lib.ListN.{length};
+ghost use Rattle.entry.specs.Key.{badKey};
 ghost use Rattle.entry.specs.Order.{least};
 ghost use Rattle.entry.specs.Entry.{entryOf, badFlag};
-ghost use Rattle.frame.specs.Reading.{numberAt, envelopeHolds, bodyIn, klen, stampIn, valueEnds, readBody, Reads};
+ghost use Rattle.frame.specs.Message.{tooLarge};
+ghost use Rattle.frame.specs.Reading.{numberAt, envelopeHolds, klen, stampIn, valueEnds, judgedAs, readBody};
 
 // The number in `width` bytes at an offset.
 fn number_at(s: &[u8], at: usize, width: usize) -> u64
@@ -32,7 +33,7 @@ fn number_at(s: &[u8], at: usize, width: usize) -> u64
 }
 
 // Whether LEN, FLAGS and the checksum hold.
-pub fn envelope_holds(frame: &[u8]) -> bool
+pub(crate) fn envelope_holds(frame: &[u8]) -> bool
     ensures { λ r. ⌜ r ≡ envelopeHolds (now (frame .entry)) ⌝ }
 {
     let n = frame.len();
@@ -52,34 +53,23 @@ pub fn envelope_holds(frame: &[u8]) -> bool
     number_at(frame, end, 4) == crc32c(&frame[2..end]) as u64
 }
 
-// The body of a frame.
-fn body_of(frame: &[u8]) -> &[u8]
+// The key's length that a frame says.
+fn key_length(frame: &[u8]) -> usize
     requires { ⌜ 8 ≤ length (now frame) ⌝ }
-    ensures { λ r. ⌜ now r ≡ bodyIn (now (frame .entry)) ⌝ }
+    ensures { λ r. ⌜ (r ≡ klen (now (frame .entry))) × (r < 256) ⌝ }
 {
-    let end = frame.len() - 4;
-    &frame[4..end]
-}
-
-// The key's length that a body says, and 0 of an empty body.
-fn key_length(body: &[u8]) -> usize
-    ensures { λ r. ⌜ (r ≡ klen (now (body .entry))) × (r < 256) ⌝ }
-{
-    if body.len() == 0 {
-        return 0;
-    }
-    body[0] as usize
+    frame[4] as usize
 }
 
 // Whether a body ends with the value whose length stands at an offset.
-fn value_ends(body: &[u8], at: usize) -> bool
+fn value_ends(frame: &[u8], at: usize) -> bool
     requires { ⌜ at < 300 ⌝ }
-    ensures { λ r. ⌜ r ≡ valueEnds at (now (body .entry)) ⌝ }
+    ensures { λ r. ⌜ r ≡ valueEnds at (now (frame .entry)) ⌝ }
 {
-    if body.len() < at + 2 {
+    if frame.len() < at + 6 {
         return false;
     }
-    number_at(body, at, 2) == (body.len() - 2 - at) as u64
+    number_at(frame, at, 2) == (frame.len() - 6 - at) as u64
 }
 
 // Whether a flag is 0 or 1, and a tombstone has no value.
@@ -93,14 +83,14 @@ fn flag_holds(flag: u8, value: &[u8]) -> bool
 }
 
 // The stamp at an offset.
-fn stamp_at(body: &[u8], at: usize) -> Stamp
-    requires { ⌜ at + 9 ≤ length (now body) ⌝ }
-    ensures { λ r. ⌜ r ≡ stampIn at (now (body .entry)) ⌝ }
+fn stamp_at(frame: &[u8], at: usize) -> Stamp
+    requires { ⌜ at + 9 ≤ length (now frame) ⌝ }
+    ensures { λ r. ⌜ r ≡ stampIn at (now (frame .entry)) ⌝ }
 {
     let node_at = at + 8;
-    let node = body[node_at];
-    let phys = number_at(body, at, 6);
-    let logical = number_at(body, at + 6, 2) as u16;
+    let node = frame[node_at];
+    let phys = number_at(frame, at, 6);
+    let logical = number_at(frame, at + 6, 2) as u16;
     Stamp {
         phys,
         logical,
@@ -108,115 +98,120 @@ fn stamp_at(body: &[u8], at: usize) -> Stamp
     }
 }
 
-pub fn read_put(frame: &[u8]) -> Read
-    requires { ⌜ 8 ≤ length (now frame) ⌝ }
-    ensures { λ r. ⌜ Reads (now (frame .entry)) r (readBody 1 (bodyIn (now (frame .entry)))) ⌝ }
+// A message with this key and value in a frame that keeps the frame rules.
+fn judge(key: &[u8], value: &[u8], message: Message) -> Read
+    ensures { λ r. ⌜ r ≡ judgedAs (badKey (now (key .entry))) (tooLarge (now (value .entry))) message ⌝ }
 {
-    let body = body_of(frame);
-    let key_len = key_length(body);
-    let key_end = key_len + 1;
-    if !value_ends(body, key_end) {
+    if !is_acceptable_key(key) {
+        return Read::Refused(Refusal::BadKey);
+    }
+    if MAX_VALUE < value.len() {
+        return Read::Refused(Refusal::ValueTooLarge);
+    }
+    Read::Message(message)
+}
+
+pub(crate) fn read_put(frame: &[u8]) -> Read
+    requires { ⌜ 8 ≤ length (now frame) ⌝ }
+    ensures { λ r. ⌜ r ≡ readBody 1 (now (frame .entry)) ⌝ }
+{
+    let key_len = key_length(frame);
+    let key_end = key_len + 5;
+    if !value_ends(frame, key_end) {
         return Read::Refused(Refusal::BadFrame);
     }
-    let value_at = key_end + 2;
-    let value = &body[value_at..];
-    let judged = judge(&body[1..key_end], value, ACTIVE, Stamp::LEAST);
-    if let Acceptance::Refused(why) = judged {
-        return Read::Refused(why);
-    }
-    Read::Put {
+    let value_at = key_len + 7;
+    let value_end = frame.len() - 4;
+    let value = &frame[value_at..value_end];
+    let message = Message::Put {
         key_at: 5,
         key_len,
-        value_at: value_at + 4,
+        value_at,
         value_len: value.len(),
-    }
+    };
+    judge(&frame[5..key_end], value, message)
 }
 
 // GET and DEL.
-pub fn read_keyed(frame: &[u8], kind: u8) -> Read
+pub(crate) fn read_keyed(frame: &[u8], kind: u8) -> Read
     requires { ⌜ (8 ≤ length (now frame)) × ((kind ≡ 2) ⊎ (kind ≡ 3)) ⌝ }
-    ensures { λ r. ⌜ Reads (now (frame .entry)) r (readBody kind (bodyIn (now (frame .entry)))) ⌝ }
+    ensures { λ r. ⌜ r ≡ readBody kind (now (frame .entry)) ⌝ }
 {
-    let body = body_of(frame);
-    let key_len = key_length(body);
-    if body.len() != key_len + 1 {
+    let key_len = key_length(frame);
+    let key_end = key_len + 5;
+    if frame.len() != key_end + 4 {
         return Read::Refused(Refusal::BadFrame);
     }
-    let judged = judge(&body[1..], b"", ACTIVE, Stamp::LEAST);
-    if let Acceptance::Refused(why) = judged {
-        return Read::Refused(why);
-    }
+    let key = &frame[5..key_end];
     if kind == GET {
-        Read::Get { key_at: 5, key_len }
+        judge(key, b"", Message::Get { key_at: 5, key_len })
     } else {
-        Read::Del { key_at: 5, key_len }
+        judge(key, b"", Message::Del { key_at: 5, key_len })
     }
 }
 
-pub fn read_repl(frame: &[u8]) -> Read
+pub(crate) fn read_repl(frame: &[u8]) -> Read
     requires { ⌜ 8 ≤ length (now frame) ⌝ }
-    ensures { λ r. ⌜ Reads (now (frame .entry)) r (readBody 4 (bodyIn (now (frame .entry)))) ⌝ }
+    ensures { λ r. ⌜ r ≡ readBody 4 (now (frame .entry)) ⌝ }
 {
-    let body = body_of(frame);
-    let key_len = key_length(body);
-    let key_end = key_len + 1;
-    let stamp_end = key_len + 11;
-    if !value_ends(body, stamp_end) {
+    let key_len = key_length(frame);
+    let key_end = key_len + 5;
+    let stamp_end = key_len + 15;
+    if !value_ends(frame, stamp_end) {
         return Read::Refused(Refusal::BadFrame);
     }
-    let value_at = stamp_end + 2;
-    let value = &body[value_at..];
-    let flag = body[key_end];
+    let value_at = key_len + 17;
+    let value_end = frame.len() - 4;
+    let value = &frame[value_at..value_end];
+    let flag = frame[key_end];
     if !flag_holds(flag, value) {
         return Read::Refused(Refusal::BadFrame);
     }
-    let stamp = stamp_at(body, key_len + 2);
-    let judged = judge(&body[1..key_end], value, flag, stamp);
-    if let Acceptance::Refused(why) = judged {
-        return Read::Refused(why);
-    }
-    Read::Repl {
+    let stamp = stamp_at(frame, key_len + 6);
+    let message = Message::Repl {
         key_at: 5,
         key_len,
-        value_at: value_at + 4,
+        value_at,
         value_len: value.len(),
         flag,
         stamp,
-    }
+    };
+    judge(&frame[5..key_end], value, message)
 }
 
 // OK and NOTFOUND.
-pub fn read_empty(frame: &[u8], kind: u8) -> Read
-    requires { ⌜ (8 ≤ length (now frame)) × ((kind ≡ 16) ⊎ (kind ≡ 18)) ⌝ }
-    ensures { λ r. ⌜ Reads (now (frame .entry)) r (readBody kind (bodyIn (now (frame .entry)))) ⌝ }
+pub(crate) fn read_empty(frame: &[u8], kind: u8) -> Read
+    requires { ⌜ (kind ≡ 16) ⊎ (kind ≡ 18) ⌝ }
+    ensures { λ r. ⌜ r ≡ readBody kind (now (frame .entry)) ⌝ }
 {
     if frame.len() != 8 {
         return Read::Refused(Refusal::BadFrame);
     }
-    if kind == OK { Read::Ok } else { Read::NotFound }
+    if kind == OK {
+        Read::Message(Message::Ok)
+    } else {
+        Read::Message(Message::NotFound)
+    }
 }
 
-pub fn read_value(frame: &[u8]) -> Read
-    requires { ⌜ 8 ≤ length (now frame) ⌝ }
-    ensures { λ r. ⌜ Reads (now (frame .entry)) r (readBody 17 (bodyIn (now (frame .entry)))) ⌝ }
+pub(crate) fn read_value(frame: &[u8]) -> Read
+    ensures { λ r. ⌜ r ≡ readBody 17 (now (frame .entry)) ⌝ }
 {
-    let body = body_of(frame);
-    if !value_ends(body, 0) {
+    if !value_ends(frame, 4) {
         return Read::Refused(Refusal::BadFrame);
     }
-    let value_len = body.len() - 2;
+    let value_len = frame.len() - 10;
     if MAX_VALUE < value_len {
         return Read::Refused(Refusal::ValueTooLarge);
     }
-    Read::Value {
+    Read::Message(Message::Value {
         value_at: 6,
         value_len,
-    }
+    })
 }
 
-pub fn read_err(frame: &[u8]) -> Read
-    requires { ⌜ 8 ≤ length (now frame) ⌝ }
-    ensures { λ r. ⌜ Reads (now (frame .entry)) r (readBody 20 (bodyIn (now (frame .entry)))) ⌝ }
+pub(crate) fn read_err(frame: &[u8]) -> Read
+    ensures { λ r. ⌜ r ≡ readBody 20 (now (frame .entry)) ⌝ }
 {
     if frame.len() != 9 {
         return Read::Refused(Refusal::BadFrame);
@@ -225,5 +220,5 @@ pub fn read_err(frame: &[u8]) -> Read
     if number == 0 {
         return Read::Refused(Refusal::BadFrame);
     }
-    Read::Err(number)
+    Read::Message(Message::Err(number))
 }

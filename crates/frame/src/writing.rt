@@ -19,7 +19,7 @@ ghost use Rattle.frame.specs.Layout.{counted, keyBytes, stampBytes, body
 ghost use Rattle.frame.specs.Writing.{WritesFrame, Sealed};
 
 // Fills `out` with the length of `s`, in `width` bytes, and `s`.
-pub fn put_counted(out: &mut [u8], width: usize, s: &[u8])
+pub(crate) fn put_counted(out: &mut [u8], width: usize, s: &[u8])
     requires { ⌜ (width ≤ 2) × (length (now out) ≡ width + length (now s)) ⌝ }
     ensures { λ _. ⌜ now (out .exit) ≡ counted width (now (s .entry)) ⌝ }
 {
@@ -39,7 +39,7 @@ fn put_stamp(out: &mut [u8], stamp: Stamp)
 }
 
 // The body of a PUT.
-pub fn put_pair(out: &mut [u8], key: &[u8], value: &[u8])
+pub(crate) fn put_pair(out: &mut [u8], key: &[u8], value: &[u8])
     requires { ⌜ length (now out) ≡ length (now key) + length (now value) + 3 ⌝ }
     ensures { λ _. ⌜ now (out .exit) ≡ body (put (now (key .entry)) (now (value .entry))) ⌝ }
 {
@@ -49,7 +49,7 @@ pub fn put_pair(out: &mut [u8], key: &[u8], value: &[u8])
 }
 
 // The body of a REPL.
-pub fn put_entry(out: &mut [u8], key: &[u8], value: &[u8], flag: u8, stamp: Stamp)
+pub(crate) fn put_entry(out: &mut [u8], key: &[u8], value: &[u8], flag: u8, stamp: Stamp)
     requires { ⌜ length (now out) ≡ length (now key) + length (now value) + 13 ⌝ }
     ensures { λ _. ⌜ now (out .exit) ≡ body (repl (entryOf (now (key .entry)) (now (value .entry)) flag stamp)) ⌝ }
 {
@@ -63,7 +63,7 @@ pub fn put_entry(out: &mut [u8], key: &[u8], value: &[u8], flag: u8, stamp: Stam
 }
 
 // Puts the body of n bytes at offset 4 into its frame.
-pub fn seal(out: &mut [u8], kind: u8, n: usize) -> Wrote
+pub(crate) fn seal(out: &mut [u8], kind: u8, n: usize) -> Wrote
     requires { ⌜ (n ≤ 592) × (n + 8 ≤ length (now out)) ⌝ }
     ensures { λ r. ⌜ Sealed kind n (now (out .entry)) r (now (out .exit)) ⌝ }
 {
@@ -78,7 +78,7 @@ pub fn seal(out: &mut [u8], kind: u8, n: usize) -> Wrote
 }
 
 // GET and DEL.
-pub fn write_keyed(key: &[u8], out: &mut [u8], kind: u8) -> Wrote
+pub(crate) fn write_keyed(key: &[u8], out: &mut [u8], kind: u8) -> Wrote
     ensures { λ r. ⌜ WritesFrame (refusalOf (entryOf (now (key .entry)) [] 0 least)) (envelope kind (keyBytes (now (key .entry)))) (now (out .entry)) r (now (out .exit)) ⌝ }
 {
     let judged = judge(key, b"", ACTIVE, Stamp::LEAST);
@@ -95,7 +95,7 @@ pub fn write_keyed(key: &[u8], out: &mut [u8], kind: u8) -> Wrote
 }
 
 // OK and NOTFOUND.
-pub fn write_empty(out: &mut [u8], kind: u8) -> Wrote
+pub(crate) fn write_empty(out: &mut [u8], kind: u8) -> Wrote
     ensures { λ r. ⌜ WritesFrame 0 (envelope kind []) (now (out .entry)) r (now (out .exit)) ⌝ }
 {
     if out.len() < 8 {

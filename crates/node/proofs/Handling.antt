@@ -7,7 +7,8 @@ use lib.ListN.{length}
 use lib.Dec.{leb}
 use borrow.Author.Tests.{lt-ltb, le-ltb, le-leb, lt-leb}
 use Rattle.clock.specs.declared.Clock.{Clock}
-use Rattle.frame.specs.Reading.{Outcome, typeIn, readFrame}
+use Rattle.frame.specs.declared.answer.Read.{Read}
+use Rattle.frame.specs.Reading.{meaning, typeIn, readAnswer, readFrame}
 use Rattle.image.specs.Image.{sound}
 use Rattle.node.specs.declared.Handled.{Handled}
 use Rattle.node.specs.declared.Reply.the-variants as reply
@@ -49,6 +50,6 @@ module _ (s : List ℕ) (c : Clock) (now : ℕ) (frame out : List ℕ) where
         unfolding serveFrame
         reply-type t = rw (h, lt-leb (2 ^ 48) now k, lt-leb (2 ^ 48) (c .phys) p, t)
 
-        pub served : leb 16 (typeIn frame) ≡ false → (o : Outcome) → o ≡ readFrame frame → serveOutcome s c now o ≡ serveFrame s c now frame
-        unfolding serveFrame
+        pub served : leb 16 (typeIn frame) ≡ false → (o : Read) → o ≡ readAnswer frame → serveOutcome s c now (meaning frame o) ≡ serveFrame s c now frame
+        unfolding serveFrame readFrame
         served t o e = rw (h, lt-leb (2 ^ 48) now k, lt-leb (2 ^ 48) (c .phys) p, t, e)

@@ -1,8 +1,8 @@
 pub mod Replying
-pub mod Variants
 pub mod Settling
 pub mod Serving
 pub mod Handling
-pub mod Audit
 pub mod Telling
+pub mod Deeds
+pub mod Audit
 pub mod WholeCalls

@@ -1,16 +1,17 @@
 -- A request's outcome, from what the clock, the store and the reader answered.
-use Prim.Native.Nat.{ℕ, _+_, _-_, _≤_, _<_}
+use Prim.Native.Nat.{ℕ, _+_, _≤_, _<_}
 use native.Mathlib.Omega.{arith}
-use mathlib.Core.Path.{_≡_, refl, sym, ap, ap₂, _∙_}
+use mathlib.Core.Path.{_≡_, refl, sym, ap, _∙_}
 use mathlib.Core.Logic.{inl, inr}
-use mathlib.Core.Bool.{true}
-use mathlib.Core.List.{List, []}
+use mathlib.Core.Bool.{Bool, true, false}
+use mathlib.Core.List.{List, [], _∷_}
 use mathlib.Core.Option.{Option, none, some}
-use lib.ListN.{length, take, drop}
+use lib.ListN.{length}
 use lib.Dec.{eqb}
+use types.Run.{OneOf}
+use denote.Enum.Declared.{tagOf}
 use Rattle.wire.specs.Fill.{field}
 use Rattle.wire.proofs.Tests.{test}
-use Rattle.wire.proofs.Fields.{field-between}
 use Rattle.entry.specs.declared.Stamp.{Stamp}
 use Rattle.entry.specs.Key.{badKey}
 use Rattle.entry.specs.Refusal.{number}
@@ -21,9 +22,13 @@ use Rattle.clock.specs.Clock.{Stepped, stampOf, sendStep, receiveStep}
 use Rattle.clock.specs.Clock as clock
 use Rattle.clock.specs.Answer.{stamp, refusal, given, clockAfter, refusalOf}
 use Rattle.clock.proofs.Steps.{Numbered}
+use Rattle.frame.specs.declared.answer.Message.{Message as Located}
+use Rattle.frame.specs.declared.answer.Message.the-variants.{Put, Get, Del, Repl, Ok, Value, NotFound, Err}
 use Rattle.frame.specs.declared.answer.Read.{Read}
 use Rattle.frame.specs.declared.answer.Read.the-variants as read
-use Rattle.frame.specs.Reading.{meaning, Within}
+use Rattle.frame.proofs.answer.Message.{the-type as the-message}
+use Rattle.frame.specs.Reading.{messageIn, meaning}
+use Rattle.frame.specs.Meaning.{Within}
 use Rattle.image.specs.Image.{sound, entriesOf}
 use Rattle.image.proofs.ImageLaws.{sound-is, sound-fits}
 use Rattle.store.specs.Held.{find}
@@ -31,36 +36,45 @@ use Rattle.store.specs.Lookup.{findingOf, valueFor, lookupAnswer, valuePart}
 use Rattle.store.specs.declared.Looked.{Looked}
 use Rattle.store.specs.declared.Looked.the-variants as looked
 use Rattle.store.specs.Unchecked.{lookupUnchecked}
+use Rattle.store.specs.Overtaken.{overtaken, overtakenUnchecked}
 use Rattle.store.proofs.HeldLaws.{find-some}
 use Rattle.store.proofs.Members.{all-fit}
 use Rattle.store.proofs.OnSound.{unchecked-on-sound}
 use Rattle.store.proofs.Looking.{value-stands}
-use Rattle.node.specs.Handler.{refused, offered, writeLocally, replicate, gets, serve, serveOutcome}
-use Rattle.node.specs.Request.{kindOf}
+use Rattle.store.proofs.Overtaking.{overtaken-on-sound}
+use Rattle.node.specs.Handler.{refused, offered, writeLocally, takeReplica, gets, serve, serveOutcome}
+use Rattle.node.specs.Request.{refusalIn}
 
 -- ---- the clock's answer
-module _ (store : List ℕ) (c n : Clock) where
+module _ (s : List ℕ) (c n : Clock) where
   -- a send that gave a stamp
-  pub sent : (e : Stamp → Entry) (t : Stepped) (s : Stamp) → n ≡ clockAfter c t → stamp s ≡ given t → offered 7 store n (e s) ≡ writeLocally store e t
-  unfolding writeLocally
-  sent e (clock.next d) s k g =
-      let f : s ≡ stampOf d = cc in
-      ap₂ (λ (a : Clock) (b : Stamp). offered 7 store a (e b)) k f
-  sent e (clock.refused j) s k g = let z : _≡_ {A = ℕ} 0 1 = cc in absurd (omega arith)
+  module _ (h : sound s ≡ true) (k v : List ℕ) (f : ℕ) (st : Stamp) (r : Bool) (o : r ≡ overtakenUnchecked s k st) where
+    told : (b : Bool) → r ≡ b → overtaken s k st ≡ b
+    told b e = sym (overtaken-on-sound s h k st) ∙ sym o ∙ e
 
-  pub not-sent : (e : Stamp → Entry) (t : Stepped) (j : ℕ) → refusal j ≡ given t → refused j ≡ writeLocally store e t
+    pub overtook : (t : Stepped) → stamp st ≡ given t → r ≡ true → refused 7 ≡ writeLocally s k v f t
+    unfolding writeLocally
+    overtook (clock.next d) g b = let q : st ≡ stampOf d = cc in rw (← q, told true b)
+    overtook (clock.refused j) g b = let z : _≡_ {A = ℕ} 0 1 = cc in absurd (omega arith)
+
+    pub sent : (t : Stepped) → stamp st ≡ given t → n ≡ clockAfter c t → r ≡ false → offered s n (entryOf k v f st) ≡ writeLocally s k v f t
+    unfolding writeLocally
+    sent (clock.next d) g m b = let q : st ≡ stampOf d = cc in rw (← q, told false b) (ap (λ (a : Clock). offered s a (entryOf k v f st)) m)
+    sent (clock.refused j) g m b = let z : _≡_ {A = ℕ} 0 1 = cc in absurd (omega arith)
+
+  pub not-sent : (k v : List ℕ) (f : ℕ) (t : Stepped) (j : ℕ) → refusal j ≡ given t → refused j ≡ writeLocally s k v f t
   unfolding writeLocally
-  not-sent e (clock.next d) j g = let z : _≡_ {A = ℕ} 0 1 = cc in absurd (omega arith)
-  not-sent e (clock.refused i) j g = let f : j ≡ i = cc in ap refused f
+  not-sent k v f (clock.next d) j g = let z : _≡_ {A = ℕ} 0 1 = cc in absurd (omega arith)
+  not-sent k v f (clock.refused i) j g = let q : j ≡ i = cc in ap refused q
 
   -- a receive that was taken
-  pub received : (e : Entry) (t : Stepped) → Numbered t → n ≡ clockAfter c t → 0 ≡ refusalOf t → offered 0 store n e ≡ replicate store e t
-  unfolding replicate
-  received e (clock.next d) p k g = ap (λ (a : Clock). offered 0 store a e) k
+  pub received : (e : Entry) (t : Stepped) → Numbered t → n ≡ clockAfter c t → 0 ≡ refusalOf t → offered s n e ≡ takeReplica s e t
+  unfolding takeReplica
+  received e (clock.next d) p k g = ap (λ (a : Clock). offered s a e) k
   received e (clock.refused j) p k g = absurd (omega arith)
 
-  pub not-received : (e : Entry) (t : Stepped) (j : ℕ) → 0 < j → j ≡ refusalOf t → refused j ≡ replicate store e t
-  unfolding replicate
+  pub not-received : (e : Entry) (t : Stepped) (j : ℕ) → 0 < j → j ≡ refusalOf t → refused j ≡ takeReplica s e t
+  unfolding takeReplica
   not-received e (clock.next d) j p g = absurd (omega arith)
   not-received e (clock.refused i) j p g = ap refused g
 
@@ -90,58 +104,63 @@ module _ (s : List ℕ) (h : sound s ≡ true) (key : List ℕ) where
   ])
 
 -- ---- the reader's answer
-module _ (s : List ℕ) (c : Clock) (now : ℕ) (frame : List ℕ) (m : Read) where
-  -- a key or a value as a part of the frame
-  pub part : (at w : ℕ) → take (at + w - at) (drop at frame) ≡ field at w frame
-  part at w = field-between at w (at + w) frame refl
+module _ (s : List ℕ) (c : Clock) (now : ℕ) (frame : List ℕ) where
+  -- a refusal leaves with its number
+  pub not-read : (o : Read) (r : Refusal) → o ≡ read.Refused r → refused (number (refusalIn o)) ≡ serveOutcome s c now (meaning frame o)
+  unfolding serveOutcome
+  not-read o r e = rw e
 
-  pub got : (ka kl : ℕ) (k : List ℕ) → m ≡ read.Get ka kl → k ≡ field ka kl frame
-      → gets s c (valuePart s k) (lookupAnswer s k) ≡ serveOutcome s c now (meaning frame m)
-  unfolding serveOutcome serve
-  got ka kl k e p = rw (e, p)
+  pub was-read : (o : Read) (m : Located) → o ≡ read.Message m → serve s c now (messageIn frame m) ≡ serveOutcome s c now (meaning frame o)
+  unfolding serveOutcome
+  was-read o m e = rw e
 
-  pub deleted : (ka kl : ℕ) (k : List ℕ) → m ≡ read.Del ka kl → k ≡ field ka kl frame
-      → writeLocally s (entryOf k [] 1) (sendStep c now) ≡ serveOutcome s c now (meaning frame m)
-  unfolding serveOutcome serve
-  deleted ka kl k e p = rw (e, p)
+  module _ (m : Located) where
+    pub got : (ka kl : ℕ) (k : List ℕ) → m ≡ Get ka kl → k ≡ field ka kl frame → gets s c (valuePart s k) (lookupAnswer s k) ≡ serve s c now (messageIn frame m)
+    unfolding serve
+    got ka kl k e p = rw (e, p)
 
-  pub put : (ka kl va vl : ℕ) (k v : List ℕ) → m ≡ read.Put ka kl va vl → k ≡ field ka kl frame → v ≡ field va vl frame
-      → writeLocally s (entryOf k v 0) (sendStep c now) ≡ serveOutcome s c now (meaning frame m)
-  unfolding serveOutcome serve
-  put ka kl va vl k v e p q = rw (e, p, q)
+    pub deleted : (ka kl : ℕ) (k : List ℕ) → m ≡ Del ka kl → k ≡ field ka kl frame → writeLocally s k [] 1 (sendStep c now) ≡ serve s c now (messageIn frame m)
+    unfolding serve
+    deleted ka kl k e p = rw (e, p)
 
-  pub replicated : (ka kl va vl f : ℕ) (t : Stamp) (k v : List ℕ) → m ≡ read.Repl ka kl va vl f t → k ≡ field ka kl frame → v ≡ field va vl frame
-      → replicate s (entryOf k v f t) (receiveStep c (t .phys) (t .logical) now) ≡ serveOutcome s c now (meaning frame m)
-  unfolding serveOutcome serve
-  replicated ka kl va vl f t k v e p q = rw (e, p, q)
+    pub put : (ka kl va vl : ℕ) (k v : List ℕ) → m ≡ Put ka kl va vl → k ≡ field ka kl frame → v ≡ field va vl frame
+        → writeLocally s k v 0 (sendStep c now) ≡ serve s c now (messageIn frame m)
+    unfolding serve
+    put ka kl va vl k v e p q = rw (e, p, q)
 
--- a refusal leaves with its number, and a reply with 3
-pub no-message : (s : List ℕ) (c : Clock) (now : ℕ) (frame : List ℕ) (m : Read) (r : Refusal) → m ≡ read.Refused r → refused (number r) ≡ serveOutcome s c now (meaning frame m)
-unfolding serveOutcome
-no-message s c now frame m r e = rw e
+    pub replicated : (ka kl va vl f : ℕ) (t : Stamp) (k v : List ℕ) → m ≡ Repl ka kl va vl f t → k ≡ field ka kl frame → v ≡ field va vl frame
+        → takeReplica s (entryOf k v f t) (receiveStep c (t .phys) (t .logical) now) ≡ serve s c now (messageIn frame m)
+    unfolding serve
+    replicated ka kl va vl f t k v e p q = rw (e, p, q)
 
-pub no-request : (s : List ℕ) (c : Clock) (now : ℕ) (frame : List ℕ) (m : Read) → 5 ≤ kindOf m → refused 3 ≡ serveOutcome s c now (meaning frame m)
-unfolding serveOutcome serve
-no-request s c now frame (read.Put ka kl va vl) h = absurd (omega arith)
-no-request s c now frame (read.Get ka kl) h = absurd (omega arith)
-no-request s c now frame (read.Del ka kl) h = absurd (omega arith)
-no-request s c now frame (read.Repl ka kl va vl f t) h = absurd (omega arith)
-no-request s c now frame read.Ok h = refl
-no-request s c now frame (read.Value va vl) h = refl
-no-request s c now frame read.NotFound h = refl
-no-request s c now frame (read.Err n) h = refl
-no-request s c now frame (read.Refused r) h = absurd (omega arith)
+  below-4 : (x : ℕ) → x < 4 → OneOf (4 ∷ 5 ∷ 6 ∷ 7 ∷ []) x → ⊥
+  below-4 x l (inl p) = omega arith
+  below-4 x l (inr (inl p)) = omega arith
+  below-4 x l (inr (inr (inl p))) = omega arith
+  below-4 x l (inr (inr (inr p))) = omega arith
 
--- the places of a message lie within its frame
-module _ (frame : List ℕ) (m : Read) (w : Within frame m) where
-  pub del-within : (ka kl : ℕ) → m ≡ read.Del ka kl → ka + kl ≤ length frame
+  -- a reply is no request
+  pub no-request : (m : Located) → OneOf (4 ∷ 5 ∷ 6 ∷ 7 ∷ []) (tagOf the-message m) → refused 3 ≡ serve s c now (messageIn frame m)
+  unfolding serve
+  no-request (Put ka kl va vl) h = absurd (below-4 0 (omega arith) h)
+  no-request (Get ka kl) h = absurd (below-4 1 (omega arith) h)
+  no-request (Del ka kl) h = absurd (below-4 2 (omega arith) h)
+  no-request (Repl ka kl va vl f t) h = absurd (below-4 3 (omega arith) h)
+  no-request Ok h = refl
+  no-request (Value va vl) h = refl
+  no-request NotFound h = refl
+  no-request (Err n) h = refl
+
+-- the parts of a message lie within its frame
+module _ (frame : List ℕ) (m : Located) (w : Within frame m) where
+  pub del-within : (ka kl : ℕ) → m ≡ Del ka kl → ka + kl ≤ length frame
   del-within ka kl e = rw e at w
 
-  pub get-within : (ka kl : ℕ) → m ≡ read.Get ka kl → ka + kl ≤ length frame
+  pub get-within : (ka kl : ℕ) → m ≡ Get ka kl → ka + kl ≤ length frame
   get-within ka kl e = rw e at w
 
-  pub put-within : (ka kl va vl : ℕ) → m ≡ read.Put ka kl va vl → (ka + kl ≤ length frame) × (va + vl ≤ length frame)
+  pub put-within : (ka kl va vl : ℕ) → m ≡ Put ka kl va vl → (ka + kl ≤ length frame) × (va + vl ≤ length frame)
   put-within ka kl va vl e = rw e at w
 
-  pub repl-within : (ka kl va vl f : ℕ) (t : Stamp) → m ≡ read.Repl ka kl va vl f t → (ka + kl ≤ length frame) × (va + vl ≤ length frame)
+  pub repl-within : (ka kl va vl f : ℕ) (t : Stamp) → m ≡ Repl ka kl va vl f t → (ka + kl ≤ length frame) × (va + vl ≤ length frame)
   repl-within ka kl va vl f t e = rw e at w

@@ -3,7 +3,7 @@ use Prim.Native.Nat.{ℕ, _^_, _≤_, _<_}
 use native.Mathlib.Omega.{arith}
 use mathlib.Core.Path.{_≡_, refl, ap, _∙_}
 use mathlib.Core.Logic.{inl, inr}
-use mathlib.Core.Bool.{Bool, true, false, cond, not, _||_}
+use mathlib.Core.Bool.{true, not, _||_}
 use mathlib.Core.List.{List, []}
 use mathlib.Core.Option.{Option, none, some}
 use lib.ListN.{length, take, drop}
@@ -11,36 +11,35 @@ use lib.Seq.{take-at}
 use lib.Dec.{ltb, leb, eqb}
 use borrow.Author.Tests.{eqb-false, le-ltb}
 use Rattle.wire.proofs.Tests.{test}
-use Rattle.entry.specs.declared.Stamp.{Stamp}
 use Rattle.entry.specs.Key.{badKey}
 use Rattle.entry.specs.Entry.{Entry, entryOf, beats, badFlag, refusalOf, badTime}
+use Rattle.entry.proofs.Numbers.{number-range}
 use Rattle.clock.specs.declared.Clock.{Clock}
 use Rattle.clock.specs.Clock.{Stepped, stampOf, sendStep, receiveStep}
 use Rattle.clock.specs.Clock as clock
 use Rattle.clock.proofs.Steps.{Numbered as StepNumbered, send-numbered, receive-numbered}
-use Rattle.frame.specs.Message.{Message, messageRefusal, InRange, keyFault, valueFault}
+use Rattle.frame.specs.declared.answer.Read.{Read}
+use Rattle.frame.specs.declared.answer.Read.the-variants as read
+use Rattle.frame.specs.Message.{Message, messageRefusal, InRange}
 use Rattle.frame.specs.Message as message
 use Rattle.frame.specs.Layout.{frameOf}
-use Rattle.frame.specs.Reading.{Outcome, envelopeHolds, typeIn, bodyIn, outcomeOf, readBody, readFrame}
+use Rattle.frame.specs.Reading.{Outcome, meaning, typeIn, readAnswer, readFrame}
 use Rattle.frame.specs.Reading as reading
 use Rattle.frame.proofs.Bodies.{value-taken, err-taken}
+use Rattle.frame.proofs.ByType.{either}
 use Rattle.frame.proofs.RoundTrips.{frame-at-most-600, written-reads-back}
 use Rattle.image.specs.Image.{slotsOf, entriesOf, sound}
 use Rattle.store.specs.Held.{put, find, indexOf}
 use Rattle.store.specs.Answer.{Answer}
 use Rattle.store.specs.Answer as answer
-use Rattle.store.specs.Offer.{told, offerAnswer}
+use Rattle.store.specs.Offer.{told, offerAnswer, afterOffer}
+use Rattle.store.specs.Overtaken.{overtaken}
 use Rattle.store.specs.Lookup.{Finding, findingFor, lookupAnswer, valuePart}
 use Rattle.store.specs.Lookup as lookup
-use Rattle.node.specs.Handler.{Served, done, refused, offerRefusal, offered, writeLocally, replicate, gets, serve, serveOutcome, serveFrame, over, settle, handled}
+use Rattle.node.specs.Handler.{Served, done, refused, offerServed, offered, writeLocally, takeReplica, gets, serve, serveOutcome, serveFrame, over, settle, handled}
 use Rattle.node.specs.Meaning.{ReadsBack, ReplyReadsBack, ReplyAtMost600}
 use Rattle.node.proofs.Replying.{ok-taken, not-found-taken}
 use Rattle.node.proofs.Serving.{value-fits}
-
--- what holds of both branches holds of a choice between them
-pub either : {A : Type 0} (P : A → Type 0) (b : Bool) (x y : A) → P x → P y → P (cond b x y)
-either P true x y p q = p
-either P false x y p q = q
 
 -- the number of a refusal
 abbrev pub Numbered : ℕ → Type 0
@@ -99,60 +98,42 @@ abbrev OutcomeNumbered : Outcome → Type 0
 OutcomeNumbered (reading.message m) = Unit {0}
 OutcomeNumbered (reading.refused n) = Numbered n
 
-outcome-numbered : (w : Bool) (m : Message) → OutcomeNumbered (outcomeOf w m)
-unfolding outcomeOf
-outcome-numbered w m = either OutcomeNumbered w _ _
-    (either OutcomeNumbered (keyFault m) _ _ (omega arith)
-    (either OutcomeNumbered (valueFault m) _ _ (omega arith) tt))
-    (omega arith)
-
-body-numbered : (t : ℕ) (b : List ℕ) → OutcomeNumbered (readBody t b)
-unfolding readBody
-body-numbered t b =
-    either OutcomeNumbered (eqb t 1) _ _ (outcome-numbered _ _)
-    (either OutcomeNumbered (eqb t 2) _ _ (outcome-numbered _ _)
-    (either OutcomeNumbered (eqb t 3) _ _ (outcome-numbered _ _)
-    (either OutcomeNumbered (eqb t 4) _ _ (outcome-numbered _ _)
-    (either OutcomeNumbered (eqb t 16) _ _ (outcome-numbered _ _)
-    (either OutcomeNumbered (eqb t 17) _ _ (outcome-numbered _ _)
-    (either OutcomeNumbered (eqb t 18) _ _ (outcome-numbered _ _)
-    (either OutcomeNumbered (eqb t 20) _ _ (outcome-numbered _ _)
-    (omega arith))))))))
+meaning-numbered : (s : List ℕ) (r : Read) → OutcomeNumbered (meaning s r)
+meaning-numbered s (read.Message m) = tt
+meaning-numbered s (read.Refused r) = number-range r
 
 read-numbered : (s : List ℕ) → OutcomeNumbered (readFrame s)
 unfolding readFrame
-read-numbered s = either OutcomeNumbered (envelopeHolds s) _ _ (body-numbered (typeIn s) (bodyIn s)) (omega arith)
+read-numbered s = meaning-numbered s (readAnswer s)
 
 -- ---- a request's outcome: a message that a writer takes, or a refusal with its number
 abbrev pub Tellable : Served → Type 0
 Tellable (done s c m) = (messageRefusal m ≡ 0) × InRange m
 Tellable (refused n) = Numbered n
 
-refusal-numbered : (k : ℕ) (a : Answer) → k ≤ 17 → AnswerNumbered a → (offerRefusal k a ≡ 0 → ⊥) → Numbered (offerRefusal k a)
-unfolding offerRefusal
-refusal-numbered k answer.stored l n z = absurd (z refl)
-refusal-numbered k answer.replaced l n z = absurd (z refl)
-refusal-numbered k answer.kept l n z = omega arith
-refusal-numbered k answer.merged l n z = absurd (z refl)
-refusal-numbered k (answer.refused j) l n z = n
+module _ (s : List ℕ) where
+  offer-tellable : (c : Clock) (a : Answer) → AnswerNumbered a → Tellable (offerServed s c a)
+  unfolding offerServed
+  offer-tellable c answer.stored n = (ok-taken, tt)
+  offer-tellable c answer.replaced n = (ok-taken, tt)
+  offer-tellable c answer.kept n = (ok-taken, tt)
+  offer-tellable c answer.merged n = (ok-taken, tt)
+  offer-tellable c (answer.refused j) n = n
 
 module _ (s : List ℕ) where
-  offered-tellable : (k : ℕ) (c : Clock) (e : Entry) → k ≤ 17 → Tellable (offered k s c e)
+  offered-tellable : (c : Clock) (e : Entry) → Tellable (offered s c e)
   unfolding offered
-  offered-tellable k c e l = elim (test (eqb (offerRefusal k (offerAnswer s e)) 0)) [
-    | inl p ↦ rw p (ok-taken, tt)
-    | inr p ↦ rw p (refusal-numbered k (offerAnswer s e) l (offer-numbered s e) (eqb-false (offerRefusal k (offerAnswer s e)) 0 p))
-  ]
+  offered-tellable c e = offer-tellable (afterOffer s e) c (offerAnswer s e) (offer-numbered s e)
 
-  write-tellable : (e : Stamp → Entry) (t : Stepped) → StepNumbered t → Tellable (writeLocally s e t)
+  write-tellable : (k v : List ℕ) (f : ℕ) (t : Stepped) → StepNumbered t → Tellable (writeLocally s k v f t)
   unfolding writeLocally
-  write-tellable e (clock.next c) n = offered-tellable 7 c (e (stampOf c)) (omega arith)
-  write-tellable e (clock.refused j) n = n
+  write-tellable k v f (clock.next c) n = either Tellable (overtaken s k (stampOf c)) _ _ (omega arith) (offered-tellable c (entryOf k v f (stampOf c)))
+  write-tellable k v f (clock.refused j) n = n
 
-  replicate-tellable : (e : Entry) (t : Stepped) → StepNumbered t → Tellable (replicate s e t)
-  unfolding replicate
-  replicate-tellable e (clock.next c) n = offered-tellable 0 c e (omega arith)
-  replicate-tellable e (clock.refused j) n = n
+  replica-tellable : (e : Entry) (t : Stepped) → StepNumbered t → Tellable (takeReplica s e t)
+  unfolding takeReplica
+  replica-tellable e (clock.next c) n = offered-tellable c e
+  replica-tellable e (clock.refused j) n = n
 
   gets-tellable : (c : Clock) (v : List ℕ) (x : Finding) → length v ≤ 512 → FindingNumbered x → Tellable (gets s c v x)
   unfolding gets
@@ -164,11 +145,11 @@ module _ (s : List ℕ) where
   module _ (h : sound s ≡ true) (c : Clock) (now : ℕ) where
     serve-tellable : (m : Message) → Tellable (serve s c now m)
     unfolding serve
-    serve-tellable (message.put k v) = write-tellable (entryOf k v 0) (sendStep c now) (send-numbered c now)
+    serve-tellable (message.put k v) = write-tellable k v 0 (sendStep c now) (send-numbered c now)
     serve-tellable (message.get k) = gets-tellable c (valuePart s k) (lookupAnswer s k) (value-fits s h k) (lookup-numbered s k)
-    serve-tellable (message.del k) = write-tellable (entryOf k [] 1) (sendStep c now) (send-numbered c now)
+    serve-tellable (message.del k) = write-tellable k [] 1 (sendStep c now) (send-numbered c now)
     serve-tellable (message.repl e) =
-        replicate-tellable e (receiveStep c (e .stamp .phys) (e .stamp .logical) now) (receive-numbered c (e .stamp .phys) (e .stamp .logical) now)
+        replica-tellable e (receiveStep c (e .stamp .phys) (e .stamp .logical) now) (receive-numbered c (e .stamp .phys) (e .stamp .logical) now)
     serve-tellable message.ok = omega arith
     serve-tellable (message.value v) = omega arith
     serve-tellable message.notFound = omega arith

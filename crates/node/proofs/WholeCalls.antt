@@ -1,28 +1,31 @@
 -- What holds of a request, of the whole call.
 use Prim.Native.Nat.{ℕ, _^_, _≤_, _<_}
 use native.Mathlib.Omega.{arith}
-use mathlib.Core.Path.{_≡_, refl, ap, _∙_}
+use mathlib.Core.Path.{_≡_, refl, sym, ap, _∙_}
 use mathlib.Core.Logic.{inl, inr}
-use mathlib.Core.Bool.{Bool, true, false, not, _||_}
+use mathlib.Core.Bool.{true, false, not, _||_}
 use mathlib.Core.List.{List}
 use lib.ListN.{length}
 use lib.Dec.{ltb, leb, eqb}
-use borrow.Author.Tests.{eqb-true, eqb-false, ne-eqb, leb-true, lt-leb, le-ltb}
+use borrow.Author.Tests.{eqb-true, eqb-false, lt-leb, le-ltb}
 use Rattle.wire.specs.Number.{Bytes}
-use Rattle.wire.proofs.Tests.{test, clash}
+use Rattle.wire.proofs.Tests.{test}
 use Rattle.entry.specs.Entry.{badTime}
 use Rattle.clock.specs.declared.Clock.{Clock}
 use Rattle.frame.specs.Message.{Message, InRange}
 use Rattle.frame.specs.Message as message
-use Rattle.frame.specs.Reading.{Outcome, typeIn, bodyIn, envelopeHolds, outcomeOf, readBody, readFrame}
+use Rattle.frame.specs.Layout.{typeOf}
+use Rattle.frame.specs.Reading.{Outcome, typeIn, readFrame}
 use Rattle.frame.specs.Reading as reading
-use Rattle.frame.proofs.RoundTrips.{read-is-taken}
+use Rattle.frame.proofs.RoundTrips.{read-is-taken, read-has-type}
+use Rattle.frame.proofs.ByType.{either}
 use Rattle.image.specs.Image.{sound}
 use Rattle.store.specs.Lookup.{lookupAnswer, valuePart}
 use Rattle.node.specs.Handler.{Served, done, refused, serve, serveOutcome, serveFrame, settle, handled}
 use Rattle.node.specs.Meaning.{AcceptedCallServes, StaleFrameChangesNothing, CallNeverLosesOrLowers, GetFrameChangesNothing, GetsAfter, GetFrameAfterPutFrame, GetFrameAfterDelFrame}
-use Rattle.node.proofs.Audit.{no-done, Safe, unchanged-safe, Stays, gets-stays, refusal-changes-nothing, stale-replica-changes-nothing, get-after-put, get-after-del, never-loses-or-lowers}
-use Rattle.node.proofs.Telling.{either, Tellable, frame-tellable}
+use Rattle.node.proofs.Deeds.{no-done, Stays, gets-stays}
+use Rattle.node.proofs.Audit.{Safe, unchanged-safe, refusal-changes-nothing, stale-replica-changes-nothing, get-after-put, get-after-del, never-loses-or-lowers}
+use Rattle.node.proofs.Telling.{Tellable, frame-tellable}
 
 -- ---- a call that is not refused
 pub record Done (s : List ℕ) (c : Clock) (reply : List ℕ) (x : Served) : Type 0 where
@@ -116,66 +119,21 @@ get-frame-changes-nothing s c now frame reply k e = elim (test (ltb (length repl
   | inr p ↦ rw p (settled-stays s c reply (serveFrame s c now frame) (get-stays s c now frame k e))
 ]
 
--- ---- a frame that reads as a request has no TYPE of a reply
-isRequest : Outcome → Bool
-isRequest (reading.message (message.put k v)) = true
-isRequest (reading.message (message.get k)) = true
-isRequest (reading.message (message.del k)) = true
-isRequest (reading.message (message.repl e)) = true
-isRequest (reading.message message.ok) = false
-isRequest (reading.message (message.value v)) = false
-isRequest (reading.message message.notFound) = false
-isRequest (reading.message (message.err n)) = false
-isRequest (reading.refused n) = false
-
-abbrev NoRequest : Outcome → Type 0
-NoRequest o = isRequest o ≡ false
-
-refused-no-request : (n : ℕ) → NoRequest (reading.refused n)
-unfolding isRequest
-refused-no-request n = refl
-
-outcome-no-request : (w : Bool) (m : Message) → NoRequest (reading.message m) → NoRequest (outcomeOf w m)
-unfolding outcomeOf
-outcome-no-request w m h = either NoRequest w _ _
-    (either NoRequest (message.keyFault m) _ _ (refused-no-request 1) (either NoRequest (message.valueFault m) _ _ (refused-no-request 2) h))
-    (refused-no-request 3)
-
-body-no-request : (t : ℕ) (b : List ℕ) → 16 ≤ t → NoRequest (readBody t b)
-unfolding readBody isRequest
-body-no-request t b h =
-    let n1 : t ≡ 1 → ⊥ = omega arith in
-    let n2 : t ≡ 2 → ⊥ = omega arith in
-    let n3 : t ≡ 3 → ⊥ = omega arith in
-    let n4 : t ≡ 4 → ⊥ = omega arith in
-    rw (ne-eqb t 1 n1, ne-eqb t 2 n2, ne-eqb t 3 n3, ne-eqb t 4 n4)
-    (either NoRequest (eqb t 16) _ _ (outcome-no-request _ _ refl)
-    (either NoRequest (eqb t 17) _ _ (outcome-no-request _ _ refl)
-    (either NoRequest (eqb t 18) _ _ (outcome-no-request _ _ refl)
-    (either NoRequest (eqb t 20) _ _ (outcome-no-request _ _ refl)
-    refl))))
-
-request-type : (s : List ℕ) (m : Message) → isRequest (reading.message m) ≡ true → readFrame s ≡ reading.message m → leb 16 (typeIn s) ≡ false
-unfolding readFrame
-request-type s m r e = elim (test (leb 16 (typeIn s))) [
-  | inl p ↦ clash (ap isRequest e ∙ r) (either NoRequest (envelopeHolds s) _ _ (body-no-request (typeIn s) (bodyIn s) (leb-true 16 (typeIn s) p)) (refused-no-request 3))
-  | inr p ↦ p
-]
-
 -- ---- a GET frame after an accepted frame
 module _ (s : List ℕ) (c : Clock) (now : ℕ) (frame reply : List ℕ) (m : Message) where
   answered : (s′ : List ℕ) (d : Clock) (m′ : Message) → sound s ≡ true → now < 2 ^ 48 → c .phys < 2 ^ 48 → 600 ≤ length reply
-      → isRequest (reading.message m) ≡ true → readFrame frame ≡ reading.message m → serve s c now m ≡ done s′ d m′
+      → leb 16 (typeOf m) ≡ false → readFrame frame ≡ reading.message m → serve s c now m ≡ done s′ d m′
       → handled s c now frame reply ≡ settle s c reply (done s′ d m′)
   unfolding handled serveFrame serveOutcome
   answered s′ d m′ h a b room q e r =
-      rw (le-ltb (length reply) 600 room, h, lt-leb (2 ^ 48) now a, lt-leb (2 ^ 48) (c .phys) b, request-type frame m q e, e, r)
+      let t : leb 16 (typeIn frame) ≡ false = ap (leb 16) (sym (read-has-type frame m e)) ∙ q in
+      rw (le-ltb (length reply) 600 room, h, lt-leb (2 ^ 48) now a, lt-leb (2 ^ 48) (c .phys) b, t, e, r)
 
 gets-after : (m : Message) (k : List ℕ) (m′ : Message) → InRange m
     → ((s s′ : List ℕ) (c d c′ : Clock) (now now′ : ℕ) (x : Message) → sound s ≡ true → c .node < 2 ^ 8 → serve s c now m ≡ done s′ d x
     → serve s′ c′ now′ (message.get k) ≡ done s′ c′ m′)
     → GetsAfter m k m′
-unfolding isRequest
+unfolding typeOf
 gets-after m k m′ i law s c c′ now now′ frame frame′ reply reply′ n e z g a b room =
     let t = handled s c now frame reply .store in
     let p = accepted-call-serves s c now frame reply m z e in

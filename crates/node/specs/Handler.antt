@@ -3,8 +3,7 @@ use Prim.Native.Nat.{ℕ}
 use mathlib.Core.Bool.{cond, not, _||_}
 use mathlib.Core.List.{List, [], _++_}
 use lib.ListN.{length, drop}
-use lib.Dec.{ltb, leb, eqb}
-use Rattle.entry.specs.declared.Stamp.{Stamp}
+use lib.Dec.{ltb, leb}
 use Rattle.entry.specs.Entry.{Entry, entryOf, badTime}
 use Rattle.clock.specs.declared.Clock.{Clock}
 use Rattle.clock.specs.Clock.{Stepped, stampOf, sendStep, receiveStep}
@@ -17,6 +16,7 @@ use Rattle.image.specs.Image.{sound}
 use Rattle.store.specs.Answer.{Answer}
 use Rattle.store.specs.Answer as answer
 use Rattle.store.specs.Offer.{offerAnswer, afterOffer}
+use Rattle.store.specs.Overtaken.{overtaken}
 use Rattle.store.specs.Lookup.{Finding, lookupAnswer, valuePart}
 use Rattle.store.specs.Lookup as lookup
 
@@ -26,29 +26,27 @@ pub data Served : Type 0 where
   refused : ℕ → Served
 
 -- ---- writing
--- the refusal of an offer's answer, 0 for none, where k is that of an entry that is not taken since the held one stays
-unfoldable pub offerRefusal : ℕ → Answer → ℕ
-offerRefusal k answer.stored = 0
-offerRefusal k answer.replaced = 0
-offerRefusal k answer.kept = k
-offerRefusal k answer.merged = 0
-offerRefusal k (answer.refused n) = n
+-- by the answer of an offer: OK whether the entry is stored, replaces the held one, or the held one is kept
+unfoldable pub offerServed : List ℕ → Clock → Answer → Served
+offerServed store next answer.stored = done store next message.ok
+offerServed store next answer.replaced = done store next message.ok
+offerServed store next answer.kept = done store next message.ok
+offerServed store next answer.merged = done store next message.ok
+offerServed store next (answer.refused n) = refused n
 
--- an entry is offered, and the clock that its step gave is kept: reply OK
-unfoldable pub offered : ℕ → List ℕ → Clock → Entry → Served
-offered k store next e =
-    cond (eqb (offerRefusal k (offerAnswer store e)) 0) (done (afterOffer store e) next message.ok)
-    (refused (offerRefusal k (offerAnswer store e)))
+-- an entry is offered, and the clock goes on to the next one
+unfoldable pub offered : List ℕ → Clock → Entry → Served
+offered store next e = offerServed (afterOffer store e) next (offerAnswer store e)
 
--- PUT and DEL send the clock and offer the entry with its stamp; it must become the held entry, else OVERTAKEN, 7
-unfoldable pub writeLocally : List ℕ → (Stamp → Entry) → Stepped → Served
-writeLocally store e (clock.next c) = offered 7 store c (e (stampOf c))
-writeLocally store e (clock.refused n) = refused n
+-- PUT and DEL send the clock and offer the entry with its stamp; a stamp that is not greater than the held one for that key is OVERTAKEN, 7
+unfoldable pub writeLocally : List ℕ → List ℕ → List ℕ → ℕ → Stepped → Served
+writeLocally store k v f (clock.next c) = cond (overtaken store k (stampOf c)) (refused 7) (offered store c (entryOf k v f (stampOf c)))
+writeLocally store k v f (clock.refused n) = refused n
 
--- REPL receives the stamp and offers the entry as it came; the held entry may stay
-unfoldable pub replicate : List ℕ → Entry → Stepped → Served
-replicate store e (clock.next c) = offered 0 store c e
-replicate store e (clock.refused n) = refused n
+-- REPL receives the stamp and offers the entry as it came
+unfoldable pub takeReplica : List ℕ → Entry → Stepped → Served
+takeReplica store e (clock.next c) = offered store c e
+takeReplica store e (clock.refused n) = refused n
 
 -- ---- reading
 -- GET replies VALUE, or NOTFOUND for DELETED and NEVER, and moves no clock
@@ -60,10 +58,10 @@ gets store c v (lookup.refused n) = refused n
 
 -- ---- a request
 unfoldable pub serve : List ℕ → Clock → ℕ → message.Message → Served
-serve store c now (message.put k v) = writeLocally store (entryOf k v 0) (sendStep c now)
+serve store c now (message.put k v) = writeLocally store k v 0 (sendStep c now)
 serve store c now (message.get k) = gets store c (valuePart store k) (lookupAnswer store k)
-serve store c now (message.del k) = writeLocally store (entryOf k [] 1) (sendStep c now)
-serve store c now (message.repl e) = replicate store e (receiveStep c (e .stamp .phys) (e .stamp .logical) now)
+serve store c now (message.del k) = writeLocally store k [] 1 (sendStep c now)
+serve store c now (message.repl e) = takeReplica store e (receiveStep c (e .stamp .phys) (e .stamp .logical) now)
 serve store c now message.ok = refused 3
 serve store c now (message.value v) = refused 3
 serve store c now message.notFound = refused 3

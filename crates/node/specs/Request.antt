@@ -4,18 +4,26 @@ use mathlib.Core.Path.{_≡_}
 use mathlib.Core.Bool.{true}
 use mathlib.Core.List.{List}
 use lib.ListN.{length}
+use Rattle.entry.specs.declared.Refusal.{Refusal}
+use Rattle.entry.specs.declared.Refusal.the-variants.{BadFrame}
 use Rattle.clock.specs.declared.Clock.{Clock}
 use Rattle.frame.specs.declared.answer.Read.{Read}
 use Rattle.frame.specs.declared.answer.Read.the-variants as read
 use Rattle.frame.specs.declared.answer.Wrote.{Wrote}
 use Rattle.frame.specs.declared.answer.Wrote.the-variants as wrote
-use Rattle.frame.specs.Message.{Message, err}
+use Rattle.frame.specs.Message.{Message, ok, err}
 use Rattle.frame.specs.Layout.{frameOf}
-use Rattle.frame.specs.Reading.{meaning, Within}
 use Rattle.image.specs.Image.{sound}
+use Rattle.store.specs.Answer.{Answer}
+use Rattle.store.specs.Answer as answer
 use Rattle.node.specs.declared.Handled.{Handled}
-use Rattle.node.specs.Handler.{Served, over, settle, serveOutcome}
+use Rattle.node.specs.Handler.{Served, over, settle}
 use Rattle.node.specs.Answer.{replyNumber, Leaves}
+
+-- the refusal of a frame; a message has none, and this is 3
+abbrev pub refusalIn : Read → Refusal
+refusalIn (read.Message m) = BadFrame
+refusalIn (read.Refused r) = r
 
 -- the bytes that a writer says it wrote
 abbrev pub bytesOf : Wrote → ℕ
@@ -37,28 +45,15 @@ Refuses c n reply r reply′ = Replies c (err n) n reply r reply′
 abbrev pub Settles : List ℕ → Clock → List ℕ → Served → Handled → List ℕ → List ℕ → Type 0
 Settles store c reply x r store′ reply′ = Leaves (settle store c reply x) r store′ reply′
 
+-- what is replied to an offer by its answer, with the clock c or the next one
+abbrev pub RepliesToOffer : Answer → Clock → Clock → List ℕ → Handled → List ℕ → Type 0
+RepliesToOffer answer.stored c next reply r reply′ = Replies next ok 0 reply r reply′
+RepliesToOffer answer.replaced c next reply r reply′ = Replies next ok 0 reply r reply′
+RepliesToOffer answer.kept c next reply r reply′ = Replies next ok 0 reply r reply′
+RepliesToOffer answer.merged c next reply r reply′ = Replies next ok 0 reply r reply′
+RepliesToOffer (answer.refused n) c next reply r reply′ = Refuses c n reply r reply′
+
 -- a request may be served: the store is sound, and the reply has room for any frame
 pub record Ready (store reply : List ℕ) : Type 0 where
   pub is-sound : sound store ≡ true
   pub room : 600 ≤ length reply
-
--- what was read, in the order in which it is looked for: a refusal, GET, REPL, PUT, DEL, a reply
-abbrev pub kindOf : Read → ℕ
-kindOf (read.Put ka kl va vl) = 3
-kindOf (read.Get ka kl) = 1
-kindOf (read.Del ka kl) = 4
-kindOf (read.Repl ka kl va vl f stamp) = 2
-kindOf read.Ok = 5
-kindOf (read.Value va vl) = 5
-kindOf read.NotFound = 5
-kindOf (read.Err n) = 5
-kindOf (read.Refused r) = 0
-
--- what was read of a frame can be served, and is none of the first k kinds
-pub record Asks (k : ℕ) (frame : List ℕ) (m : Read) : Type 0 where
-  pub kind : k ≤ kindOf m
-  pub within : Within frame m
-
--- the promise of serving what was read
-abbrev pub Serves : List ℕ → Clock → ℕ → List ℕ → Read → List ℕ → Handled → List ℕ → List ℕ → Type 0
-Serves store c now frame m reply r store′ reply′ = Settles store c reply (serveOutcome store c now (meaning frame m)) r store′ reply′

@@ -9,6 +9,7 @@ use frame::read;
 use image::is_sound;
 use request::refuse;
 use request::serve;
+use request::why;
 ghost use mathlib.Core.Path.{_≡_};
 ghost use lib.Dec.{leb};
 ghost use Rattle.frame.specs.Reading.{typeIn};
@@ -66,9 +67,9 @@ pub fn handle(store: &mut [u8], clock: Clock, time: u64, frame: &[u8], reply: &m
     if is_reply(frame) {
         return refuse(clock, Refusal::BadFrame, reply);
     }
-    let message = read(frame);
-    if let Read::Refused(refusal) = message {
-        return refuse(clock, refusal, reply);
-    }
+    let outcome = read(frame);
+    let Read::Message(message) = outcome else {
+        return refuse(clock, why(outcome), reply);
+    };
     serve(store, clock, time, frame, message, reply)
 }

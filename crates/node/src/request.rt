@@ -8,6 +8,7 @@ use entry::ACTIVE;
 use entry::Refusal;
 use entry::Stamp;
 use entry::TOMBSTONE;
+use frame::Message;
 use frame::Read;
 use frame::Wrote;
 use frame::write_err;
@@ -16,19 +17,42 @@ use frame::write_ok;
 use frame::write_value;
 use store::Looked;
 use store::Offered;
+use store::is_overtaken;
 use store::lookup_unchecked;
 use store::offer_unchecked;
 ghost use mathlib.Core.Path.{_≡_};
-ghost use mathlib.Core.Bool.{cond};
-ghost use Prim.Native.Nat.{_≤_};
+ghost use Prim.Native.Nat.{_+_, _≤_};
 ghost use lib.ListN.{length};
+ghost use Rattle.wire.specs.Fill.{field};
 ghost use Rattle.entry.specs.Refusal.{number};
 ghost use Rattle.entry.specs.Entry.{entryOf};
 ghost use Rattle.clock.specs.Clock.{sendStep, receiveStep};
 ghost use Rattle.frame.specs.Message.{ok, value as valueOf, notFound};
+ghost use Rattle.frame.specs.Reading.{messageIn};
+ghost use Rattle.frame.specs.Meaning.{Within};
+ghost use Rattle.store.specs.Answer.{answerOf};
 ghost use Rattle.store.specs.Lookup.{lookupAnswer, valuePart};
-ghost use Rattle.node.specs.Handler.{offered, writeLocally, replicate, gets};
-ghost use Rattle.node.specs.Request.{Ready, Replies, Refuses, Settles, Serves, Asks, bytesOf};
+ghost use Rattle.node.specs.Handler.{writeLocally, takeReplica, gets, serve as serveOf};
+ghost use Rattle.node.specs.Request.{Ready, Replies, Refuses, RepliesToOffer, Settles, refusalIn, bytesOf};
+
+// The refusal of a frame; 3 for a message, which has none.
+pub(crate) fn why(outcome: Read) -> Refusal
+    ensures { λ r. ⌜ r ≡ refusalIn outcome ⌝ }
+{
+    match outcome {
+        Read::Refused(refusal) => refusal,
+        Read::Message(_) => Refusal::BadFrame,
+    }
+}
+
+// A key or a value, as a part of its frame.
+fn part(frame: &[u8], at: usize, len: usize) -> &[u8]
+    requires { ⌜ at + len ≤ length (now frame) ⌝ }
+    ensures { λ r. ⌜ now r ≡ field at len (now (frame .entry)) ⌝ }
+{
+    let end = at + len;
+    &frame[at..end]
+}
 
 // How many bytes a writer wrote.
 fn count(wrote: Wrote) -> usize
@@ -41,7 +65,7 @@ fn count(wrote: Wrote) -> usize
 }
 
 // A refusal, with its ERR frame in the reply.
-pub fn refuse(clock: Clock, refusal: Refusal, reply: &mut [u8]) -> Handled
+pub(crate) fn refuse(clock: Clock, refusal: Refusal, reply: &mut [u8]) -> Handled
     requires { ⌜ 600 ≤ length (now reply) ⌝ }
     ensures { λ r. ⌜ Refuses clock (number refusal) (now (reply .entry)) r (now (reply .exit)) ⌝ }
 {
@@ -108,37 +132,20 @@ fn get(store: &[u8], clock: Clock, key: &[u8], reply: &mut [u8]) -> Handled
     }
 }
 
-// Offers an entry whose step gave the clock `next`. A local write is overtaken where the held entry stays; a replica is served all the same.
-fn offer_entry(
-    store: &mut [u8],
-    clock: Clock,
-    next: Clock,
-    key: &[u8],
-    value: &[u8],
-    flag: u8,
-    stamp: Stamp,
-    local: bool,
-    reply: &mut [u8],
-) -> Handled
-    requires { ⌜ Ready (now store) (now reply) ⌝ }
-    ensures { λ r. ⌜ Settles (now (store .entry)) clock (now (reply .entry)) (offered (cond local 7 0) (now (store .entry)) next (entryOf (now (key .entry)) (now (value .entry)) flag stamp)) r (now (store .exit)) (now (reply .exit)) ⌝ }
+// What is replied to an offer: OK also where the held entry stays. The clock goes on to `next` unless the offer is refused.
+fn reply_to_offer(answer: Offered, clock: Clock, next: Clock, reply: &mut [u8]) -> Handled
+    requires { ⌜ 600 ≤ length (now reply) ⌝ }
+    ensures { λ r. ⌜ RepliesToOffer (answerOf answer) clock next (now (reply .entry)) r (now (reply .exit)) ⌝ }
 {
-    let answer = offer_unchecked(store, key, value, flag, stamp);
     match answer {
         Offered::Stored => accept(next, reply),
         Offered::Replaced => accept(next, reply),
-        Offered::Kept => {
-            if local {
-                refuse(clock, Refusal::Overtaken, reply)
-            } else {
-                accept(next, reply)
-            }
-        }
+        Offered::Kept => accept(next, reply),
         Offered::Refused(refusal) => refuse(clock, refusal, reply),
     }
 }
 
-// PUT and DEL: sends the clock and offers the entry.
+// PUT and DEL: sends the clock and offers the entry, unless the held one has overtaken it.
 fn write_locally(
     store: &mut [u8],
     clock: Clock,
@@ -149,24 +156,20 @@ fn write_locally(
     reply: &mut [u8],
 ) -> Handled
     requires { ⌜ Ready (now store) (now reply) ⌝ }
-    ensures { λ r. ⌜ Settles (now (store .entry)) clock (now (reply .entry)) (writeLocally (now (store .entry)) (entryOf (now (key .entry)) (now (value .entry)) flag) (sendStep clock time)) r (now (store .exit)) (now (reply .exit)) ⌝ }
+    ensures { λ r. ⌜ Settles (now (store .entry)) clock (now (reply .entry)) (writeLocally (now (store .entry)) (now (key .entry)) (now (value .entry)) flag (sendStep clock time)) r (now (store .exit)) (now (reply .exit)) ⌝ }
 {
     let sent = clock.send(time);
     let next = sent.clock;
     let answer = sent.answer;
     match answer {
-        SendAnswer::Stamped(stamp) => offer_entry(
-            store,
-            clock,
-            next,
-            key,
-            value,
-            flag,
-            stamp,
-            true,
-            reply,
-        ),
         SendAnswer::Refused(refusal) => refuse(clock, refusal, reply),
+        SendAnswer::Stamped(stamp) => {
+            if is_overtaken(store, key, stamp) {
+                return refuse(clock, Refusal::Overtaken, reply);
+            }
+            let offered = offer_unchecked(store, key, value, flag, stamp);
+            reply_to_offer(offered, clock, next, reply)
+        }
     }
 }
 
@@ -182,141 +185,62 @@ fn take_replica(
     reply: &mut [u8],
 ) -> Handled
     requires { ⌜ Ready (now store) (now reply) ⌝ }
-    ensures { λ r. ⌜ Settles (now (store .entry)) clock (now (reply .entry)) (replicate (now (store .entry)) (entryOf (now (key .entry)) (now (value .entry)) flag stamp) (receiveStep clock (stamp .phys) (stamp .logical) time)) r (now (store .exit)) (now (reply .exit)) ⌝ }
+    ensures { λ r. ⌜ Settles (now (store .entry)) clock (now (reply .entry)) (takeReplica (now (store .entry)) (entryOf (now (key .entry)) (now (value .entry)) flag stamp) (receiveStep clock (stamp .phys) (stamp .logical) time)) r (now (store .exit)) (now (reply .exit)) ⌝ }
 {
     let receipt = clock.receive(stamp.phys, stamp.logical, time);
     let next = receipt.clock;
     let answer = receipt.answer;
     match answer {
-        ReceiveAnswer::Received => offer_entry(
-            store,
-            clock,
-            next,
-            key,
-            value,
-            flag,
-            stamp,
-            false,
-            reply,
-        ),
         ReceiveAnswer::Refused(refusal) => refuse(clock, refusal, reply),
+        ReceiveAnswer::Received => {
+            let offered = offer_unchecked(store, key, value, flag, stamp);
+            reply_to_offer(offered, clock, next, reply)
+        }
     }
 }
 
-fn serve_del(
+// Serves a message that was read from a frame.
+pub(crate) fn serve(
     store: &mut [u8],
     clock: Clock,
     time: u64,
     frame: &[u8],
-    message: Read,
+    message: Message,
     reply: &mut [u8],
 ) -> Handled
     requires { ⌜ Ready (now store) (now reply) ⌝ }
-    requires { ⌜ Asks 4 (now frame) message ⌝ }
-    ensures { λ r. ⌜ Serves (now (store .entry)) clock time (now (frame .entry)) message (now (reply .entry)) r (now (store .exit)) (now (reply .exit)) ⌝ }
+    requires { ⌜ Within (now frame) message ⌝ }
+    ensures { λ r. ⌜ Settles (now (store .entry)) clock (now (reply .entry)) (serveOf (now (store .entry)) clock time (messageIn (now (frame .entry)) message)) r (now (store .exit)) (now (reply .exit)) ⌝ }
 {
-    let Read::Del { key_at, key_len } = message else {
-        return refuse(clock, Refusal::BadFrame, reply);
-    };
-    let end = key_at + key_len;
-    write_locally(
-        store,
-        clock,
-        time,
-        &frame[key_at..end],
-        b"",
-        TOMBSTONE,
-        reply,
-    )
-}
-
-fn serve_put(
-    store: &mut [u8],
-    clock: Clock,
-    time: u64,
-    frame: &[u8],
-    message: Read,
-    reply: &mut [u8],
-) -> Handled
-    requires { ⌜ Ready (now store) (now reply) ⌝ }
-    requires { ⌜ Asks 3 (now frame) message ⌝ }
-    ensures { λ r. ⌜ Serves (now (store .entry)) clock time (now (frame .entry)) message (now (reply .entry)) r (now (store .exit)) (now (reply .exit)) ⌝ }
-{
-    let Read::Put {
-        key_at,
-        key_len,
-        value_at,
-        value_len,
-    } = message
-    else {
-        return serve_del(store, clock, time, frame, message, reply);
-    };
-    let key_end = key_at + key_len;
-    let value_end = value_at + value_len;
-    write_locally(
-        store,
-        clock,
-        time,
-        &frame[key_at..key_end],
-        &frame[value_at..value_end],
-        ACTIVE,
-        reply,
-    )
-}
-
-fn serve_repl(
-    store: &mut [u8],
-    clock: Clock,
-    time: u64,
-    frame: &[u8],
-    message: Read,
-    reply: &mut [u8],
-) -> Handled
-    requires { ⌜ Ready (now store) (now reply) ⌝ }
-    requires { ⌜ Asks 2 (now frame) message ⌝ }
-    ensures { λ r. ⌜ Serves (now (store .entry)) clock time (now (frame .entry)) message (now (reply .entry)) r (now (store .exit)) (now (reply .exit)) ⌝ }
-{
-    let Read::Repl {
-        key_at,
-        key_len,
-        value_at,
-        value_len,
-        flag,
-        stamp,
-    } = message
-    else {
-        return serve_put(store, clock, time, frame, message, reply);
-    };
-    let key_end = key_at + key_len;
-    let value_end = value_at + value_len;
-    take_replica(
-        store,
-        clock,
-        time,
-        &frame[key_at..key_end],
-        &frame[value_at..value_end],
-        flag,
-        stamp,
-        reply,
-    )
-}
-
-// Serves what was read and not refused: a GET, or one of the others.
-pub fn serve(
-    store: &mut [u8],
-    clock: Clock,
-    time: u64,
-    frame: &[u8],
-    message: Read,
-    reply: &mut [u8],
-) -> Handled
-    requires { ⌜ Ready (now store) (now reply) ⌝ }
-    requires { ⌜ Asks 1 (now frame) message ⌝ }
-    ensures { λ r. ⌜ Serves (now (store .entry)) clock time (now (frame .entry)) message (now (reply .entry)) r (now (store .exit)) (now (reply .exit)) ⌝ }
-{
-    let Read::Get { key_at, key_len } = message else {
-        return serve_repl(store, clock, time, frame, message, reply);
-    };
-    let end = key_at + key_len;
-    get(store, clock, &frame[key_at..end], reply)
+    match message {
+        Message::Put {
+            key_at,
+            key_len,
+            value_at,
+            value_len,
+        } => {
+            let key = part(frame, key_at, key_len);
+            let value = part(frame, value_at, value_len);
+            write_locally(store, clock, time, key, value, ACTIVE, reply)
+        }
+        Message::Get { key_at, key_len } => get(store, clock, part(frame, key_at, key_len), reply),
+        Message::Del { key_at, key_len } => {
+            let key = part(frame, key_at, key_len);
+            write_locally(store, clock, time, key, b"", TOMBSTONE, reply)
+        }
+        Message::Repl {
+            key_at,
+            key_len,
+            value_at,
+            value_len,
+            flag,
+            stamp,
+        } => {
+            let key = part(frame, key_at, key_len);
+            let value = part(frame, value_at, value_len);
+            take_replica(store, clock, time, key, value, flag, stamp, reply)
+        }
+        // the types of a reply, which `handle` has refused before
+        _ => refuse(clock, Refusal::BadFrame, reply),
+    }
 }

@@ -4,7 +4,7 @@ use mathlib.Core.Path.{_≡_, refl, sym, _∙_}
 use mathlib.Core.Bool.{true}
 use borrow.Author.Tests.{not-true, not-false}
 use Rattle.frame.specs.Reading.{envelopeHolds}
-use Rattle.frame.proofs.Outcomes.{two-or-three, frame-long, frame-read, frame-unknown, frame-bad}
+use Rattle.frame.proofs.Answers.{two-or-three, frame-long, frame-read, frame-unknown, frame-bad}
 use Rattle.frame.proofs.read.Statement.{statement}
 use Rattle.frame.proofs.read.Tie as tie
 
@@ -27,13 +27,13 @@ read-repl-requires : tie.Need-read-repl-requires
 read-repl-requires c κs = frame-long _ (holds (c .before .before))
 
 read-empty-requires : tie.Need-read-empty-requires
-read-empty-requires c κs = (frame-long _ (holds (c .before .before)), c .match .keys3)
+read-empty-requires c κs = c .match .keys3
 
 read-value-requires : tie.Need-read-value-requires
-read-value-requires c κs = frame-long _ (holds (c .before .before))
+read-value-requires c κs = search needs
 
 read-err-requires : tie.Need-read-err-requires
-read-err-requires c κs = frame-long _ (holds (c .before .before))
+read-err-requires c κs = search needs
 
 read-keyed-requires : tie.Need-read-keyed-requires
 read-keyed-requires c κs = (frame-long _ (holds (c .before .before .before .before)), two-or-three _ (omega (arith, c .before .before .match .rest .0 .0 .0 .0 .1)) (c .if3 .taken))

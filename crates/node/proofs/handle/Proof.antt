@@ -1,16 +1,34 @@
 use borrow.Author.Needs.{needs}
-use native.Mathlib.Omega.{arith}
-use mathlib.Core.Path.{refl, sym, _∙_}
-use mathlib.Core.List.{[], _∷_}
+use mathlib.Core.Path.{_≡_, refl, sym, ap, _∙_}
+use mathlib.Core.Bool.{true}
 use borrow.Author.Tests.{not-true, not-false}
-use Rattle.node.proofs.Variants.{apart, past-kind}
-use Rattle.node.proofs.Serving.{no-message}
+use Rattle.entry.specs.declared.Refusal.{Refusal}
+use Rattle.entry.specs.Refusal.{number}
+use Rattle.frame.specs.Reading.{meaning}
+use Rattle.frame.proofs.RoundTrips.{read-lies-within}
+use Rattle.image.specs.Image.{sound}
+use Rattle.node.specs.Handler.{refused, serveOutcome, serveFrame}
+use Rattle.node.proofs.Serving.{not-read, was-read}
 use Rattle.node.proofs.Handling.{no-room, handles, refuses, unsound, bad-now, bad-clock, reply-type, served}
 use Rattle.node.proofs.handle.Statement.{statement}
 use Rattle.node.proofs.handle.Tie as tie
 
+-- the store is sound
+sound-store : (c : tie.Else2) → sound (c .before .before .before .before .before .before .before .args .store .now) ≡ true
+sound-store c = sym (c .before .is-sound .ensures) ∙ not-false _ (c .if2 .left)
+
+-- the call is served by what was read
+by-outcome : (c : tie.After-read) → let a = c .before .before .before .before .before .before .before .before .before .before .before .before .before .args in serveOutcome (a .store .now) (a .clock) (a .time) (meaning (a .frame .now) (c .read .result)) ≡ serveFrame (a .store .now) (a .clock) (a .time) (a .frame .now)
+by-outcome c =
+    let p = c .before .before .before in
+    let t = p .before .before in
+    let a = c .before .before .before .before .before .before .before .before .before .before .before .before .before .args in
+    served (a .store .now) (a .clock) (a .time) (a .frame .now) (a .reply .now) (sound-store (t .before)) (t .if3 .left) (p .if4 .left) (sym (c .before .before .is-reply .ensures) ∙ c .before .if5 .left) _ (c .read .ensures)
+
 returns : tie.Need-returns
-returns c = no-room (c .before .before .before .before .args .store .now) (c .before .before .before .before .args .clock) (c .before .before .before .before .args .time) (c .before .before .before .before .args .frame .now) (c .before .before .before .before .args .reply .now) (c .if1 .taken)
+returns c =
+    let a = c .before .before .before .before .args in
+    no-room (a .store .now) (a .clock) (a .time) (a .frame .now) (a .reply .now) (c .if1 .taken)
 
 is-sound-requires : tie.Need-is-sound-requires
 is-sound-requires c κs = search needs
@@ -25,7 +43,12 @@ same-length-2 : tie.Need-same-length-2
 same-length-2 c = search needs
 
 returns-2 : tie.Need-returns-2
-returns-2 c = refuses (c .before .before .before .before .before .before .before .before .before .before .before .args .store .now) (c .before .before .before .before .before .before .before .before .before .before .before .args .clock) (c .before .before .before .before .before .before .before .before .before .before .before .args .time) (c .before .before .before .before .before .before .before .before .before .before .before .args .frame .now) (c .before .before .before .before .before .before .before .before .before .before .before .args .reply .now) (c .before .before .before .before .before .before .before .if1 .left) _ _ _ 5 (unsound (c .before .before .before .before .before .before .before .before .before .before .before .args .store .now) (c .before .before .before .before .before .before .before .before .before .before .before .args .clock) (c .before .before .before .before .before .before .before .before .before .before .before .args .time) (c .before .before .before .before .before .before .before .before .before .before .before .args .frame .now) (c .before .before .before .before .before .before .before .before .before .before .before .args .reply .now) (sym (c .before .before .before .before .before .is-sound .ensures) ∙ not-true _ (c .before .before .before .before .if2 .taken))) refl (c .before .before .refuse .ensures)
+returns-2 c =
+    let k = c .before .before .before .before .before in
+    let f = k .before .before in
+    let a = f .before .before .before .before .args in
+    refuses (a .store .now) (a .clock) (a .time) (a .frame .now) (a .reply .now) (f .if1 .left) _ _ _ 5
+    (unsound (a .store .now) (a .clock) (a .time) (a .frame .now) (a .reply .now) (sym (k .is-sound .ensures) ∙ not-true _ (c .before .before .before .before .if2 .taken))) refl (c .before .before .refuse .ensures)
 
 refuse-requires-2 : tie.Need-refuse-requires-2
 refuse-requires-2 c κs = search needs
@@ -37,7 +60,12 @@ same-length-4 : tie.Need-same-length-4
 same-length-4 c = search needs
 
 returns-3 : tie.Need-returns-3
-returns-3 c = refuses (c .before .before .before .before .before .before .before .before .before .before .before .before .args .store .now) (c .before .before .before .before .before .before .before .before .before .before .before .before .args .clock) (c .before .before .before .before .before .before .before .before .before .before .before .before .args .time) (c .before .before .before .before .before .before .before .before .before .before .before .before .args .frame .now) (c .before .before .before .before .before .before .before .before .before .before .before .before .args .reply .now) (c .before .before .before .before .before .before .before .before .if1 .left) _ _ _ 9 (bad-now (c .before .before .before .before .before .before .before .before .before .before .before .before .args .store .now) (c .before .before .before .before .before .before .before .before .before .before .before .before .args .clock) (c .before .before .before .before .before .before .before .before .before .before .before .before .args .time) (c .before .before .before .before .before .before .before .before .before .before .before .before .args .frame .now) (c .before .before .before .before .before .before .before .before .before .before .before .before .args .reply .now) (sym (c .before .before .before .before .before .before .is-sound .ensures) ∙ not-false _ (c .before .before .before .before .before .if2 .left)) (c .before .before .before .before .if3 .taken)) refl (c .before .before .refuse2 .ensures)
+returns-3 c =
+    let k = c .before .before .before .before .before in
+    let f = k .before .before .before in
+    let a = f .before .before .before .before .args in
+    refuses (a .store .now) (a .clock) (a .time) (a .frame .now) (a .reply .now) (f .if1 .left) _ _ _ 9
+    (bad-now (a .store .now) (a .clock) (a .time) (a .frame .now) (a .reply .now) (sound-store k) (c .before .before .before .before .if3 .taken)) refl (c .before .before .refuse2 .ensures)
 
 refuse-requires-3 : tie.Need-refuse-requires-3
 refuse-requires-3 c κs = search needs
@@ -49,7 +77,13 @@ same-length-6 : tie.Need-same-length-6
 same-length-6 c = search needs
 
 returns-4 : tie.Need-returns-4
-returns-4 c = refuses (c .before .before .before .before .before .before .before .before .before .before .before .before .before .before .args .store .now) (c .before .before .before .before .before .before .before .before .before .before .before .before .before .before .args .clock) (c .before .before .before .before .before .before .before .before .before .before .before .before .before .before .args .time) (c .before .before .before .before .before .before .before .before .before .before .before .before .before .before .args .frame .now) (c .before .before .before .before .before .before .before .before .before .before .before .before .before .before .args .reply .now) (c .before .before .before .before .before .before .before .before .before .before .if1 .left) _ _ _ 9 (bad-clock (c .before .before .before .before .before .before .before .before .before .before .before .before .before .before .args .store .now) (c .before .before .before .before .before .before .before .before .before .before .before .before .before .before .args .clock) (c .before .before .before .before .before .before .before .before .before .before .before .before .before .before .args .time) (c .before .before .before .before .before .before .before .before .before .before .before .before .before .before .args .frame .now) (c .before .before .before .before .before .before .before .before .before .before .before .before .before .before .args .reply .now) (sym (c .before .before .before .before .before .before .before .before .is-sound .ensures) ∙ not-false _ (c .before .before .before .before .before .before .before .if2 .left)) (c .before .before .before .before .before .before .if3 .left) (c .before .before .before .before .if4 .taken)) refl (c .before .before .refuse3 .ensures)
+returns-4 c =
+    let t = c .before .before .before .before .before .before in
+    let k = t .before in
+    let f = k .before .before .before in
+    let a = f .before .before .before .before .args in
+    refuses (a .store .now) (a .clock) (a .time) (a .frame .now) (a .reply .now) (f .if1 .left) _ _ _ 9
+    (bad-clock (a .store .now) (a .clock) (a .time) (a .frame .now) (a .reply .now) (sound-store k) (t .if3 .left) (c .before .before .before .before .if4 .taken)) refl (c .before .before .refuse3 .ensures)
 
 is-reply-requires : tie.Need-is-reply-requires
 is-reply-requires c κs = search needs
@@ -64,13 +98,27 @@ same-length-8 : tie.Need-same-length-8
 same-length-8 c = search needs
 
 returns-5 : tie.Need-returns-5
-returns-5 c = refuses (c .before .before .before .before .before .before .before .before .before .before .before .before .before .before .before .before .args .store .now) (c .before .before .before .before .before .before .before .before .before .before .before .before .before .before .before .before .args .clock) (c .before .before .before .before .before .before .before .before .before .before .before .before .before .before .before .before .args .time) (c .before .before .before .before .before .before .before .before .before .before .before .before .before .before .before .before .args .frame .now) (c .before .before .before .before .before .before .before .before .before .before .before .before .before .before .before .before .args .reply .now) (c .before .before .before .before .before .before .before .before .before .before .before .before .if1 .left) _ _ _ 3 (reply-type (c .before .before .before .before .before .before .before .before .before .before .before .before .before .before .before .before .args .store .now) (c .before .before .before .before .before .before .before .before .before .before .before .before .before .before .before .before .args .clock) (c .before .before .before .before .before .before .before .before .before .before .before .before .before .before .before .before .args .time) (c .before .before .before .before .before .before .before .before .before .before .before .before .before .before .before .before .args .frame .now) (c .before .before .before .before .before .before .before .before .before .before .before .before .before .before .before .before .args .reply .now) (sym (c .before .before .before .before .before .before .before .before .before .before .is-sound .ensures) ∙ not-false _ (c .before .before .before .before .before .before .before .before .before .if2 .left)) (c .before .before .before .before .before .before .before .before .if3 .left) (c .before .before .before .before .before .before .if4 .left) (sym (c .before .before .before .before .before .is-reply .ensures) ∙ c .before .before .before .before .if5 .taken)) refl (c .before .before .refuse4 .ensures)
+returns-5 c =
+    let p = c .before .before .before .before .before .before in
+    let t = p .before .before in
+    let k = t .before in
+    let f = k .before .before .before in
+    let a = f .before .before .before .before .args in
+    refuses (a .store .now) (a .clock) (a .time) (a .frame .now) (a .reply .now) (f .if1 .left) _ _ _ 3
+    (reply-type (a .store .now) (a .clock) (a .time) (a .frame .now) (a .reply .now) (sound-store k) (t .if3 .left) (p .if4 .left)
+    (sym (c .before .before .before .before .before .is-reply .ensures) ∙ c .before .before .before .before .if5 .taken)) refl (c .before .before .refuse4 .ensures)
 
 read-requires : tie.Need-read-requires
 read-requires c κs = search needs
 
-enum-known-message : tie.Need-enum-known-message
-enum-known-message c = search needs
+enum-known-outcome : tie.Need-enum-known-outcome
+enum-known-outcome c = search needs
+
+enum-told : tie.Need-enum-told
+enum-told c = search needs
+
+why-requires : tie.Need-why-requires
+why-requires c κs = search needs
 
 refuse-requires-5 : tie.Need-refuse-requires-5
 refuse-requires-5 c κs = search needs
@@ -82,11 +130,20 @@ same-length-10 : tie.Need-same-length-10
 same-length-10 c = search needs
 
 returns-6 : tie.Need-returns-6
-returns-6 c = refuses (c .before .before .before .before .before .before .before .before .before .before .before .before .before .before .before .before .before .before .before .before .args .store .now) (c .before .before .before .before .before .before .before .before .before .before .before .before .before .before .before .before .before .before .before .before .args .clock) (c .before .before .before .before .before .before .before .before .before .before .before .before .before .before .before .before .before .before .before .before .args .time) (c .before .before .before .before .before .before .before .before .before .before .before .before .before .before .before .before .before .before .before .before .args .frame .now) (c .before .before .before .before .before .before .before .before .before .before .before .before .before .before .before .before .before .before .before .before .args .reply .now) (c .before .before .before .before .before .before .before .before .before .before .before .before .before .before .before .before .if1 .left) _ _ _ _ (no-message (c .before .before .before .before .before .before .before .before .before .before .before .before .before .before .before .before .before .before .before .before .args .store .now) (c .before .before .before .before .before .before .before .before .before .before .before .before .before .before .before .before .before .before .before .before .args .clock) (c .before .before .before .before .before .before .before .before .before .before .before .before .before .before .before .before .before .before .before .before .args .time) (c .before .before .before .before .before .before .before .before .before .before .before .before .before .before .before .before .before .before .before .before .args .frame .now) _ (c .before .before .before .before .before .message .given .0 .0) (c .before .before .before .before .before .message .given .1) ∙ served (c .before .before .before .before .before .before .before .before .before .before .before .before .before .before .before .before .before .before .before .before .args .store .now) (c .before .before .before .before .before .before .before .before .before .before .before .before .before .before .before .before .before .before .before .before .args .clock) (c .before .before .before .before .before .before .before .before .before .before .before .before .before .before .before .before .before .before .before .before .args .time) (c .before .before .before .before .before .before .before .before .before .before .before .before .before .before .before .before .before .before .before .before .args .frame .now) (c .before .before .before .before .before .before .before .before .before .before .before .before .before .before .before .before .before .before .before .before .args .reply .now) (sym (c .before .before .before .before .before .before .before .before .before .before .before .before .before .before .is-sound .ensures) ∙ not-false _ (c .before .before .before .before .before .before .before .before .before .before .before .before .before .if2 .left)) (c .before .before .before .before .before .before .before .before .before .before .before .before .if3 .left) (c .before .before .before .before .before .before .before .before .before .before .if4 .left) (sym (c .before .before .before .before .before .before .before .before .before .is-reply .ensures) ∙ c .before .before .before .before .before .before .before .before .if5 .left) _ (c .before .before .before .before .before .before .before .read .ensures .means)) refl (c .before .before .refuse5 .ensures)
+returns-6 c =
+    let k = c .before .before .before .before .before .before .before in
+    let f = k .before .before .before .before .before .before .before .before .before in
+    let a = f .before .before .before .before .args in
+    refuses (a .store .now) (a .clock) (a .time) (a .frame .now) (a .reply .now) (f .if1 .left) _ _ _ _
+    (ap (λ (r : Refusal). refused (number r)) (c .before .before .before .before .why .ensures)
+    ∙ not-read (a .store .now) (a .clock) (a .time) (a .frame .now) _ _ (c .before .before .before .before .before .enum-told .given .1) ∙ by-outcome k)
+    refl (c .before .before .refuse5 .ensures)
 
 serve-requires : tie.Need-serve-requires
-unfolding apart
-serve-requires c κs = (record { is-sound = sym (c .before .before .before .before .before .before .before .before .before .before .is-sound .ensures) ∙ not-false _ (c .before .before .before .before .before .before .before .before .before .if2 .left); room = c .before .before .before .before .before .before .before .before .before .before .before .before .if1 .left }, record { kind = past-kind 0 (0 ∷ 1 ∷ 2 ∷ 3 ∷ 4 ∷ 5 ∷ 6 ∷ 7 ∷ []) (c .before .before .before .read .result) refl (c .before .before .match .keys2) (omega arith); within = c .before .before .before .read .ensures .within })
+serve-requires c κs =
+    let k = c .before .before .before .before .before in
+    let f = k .before .before .before .before .before .before .before .before .before in
+    (record { is-sound = sound-store (k .before .before .before .before .before .before); room = f .if1 .left }, read-lies-within _ _ (sym (k .read .ensures) ∙ c .before .before .before .outcome .given .1))
 
 same-length-11 : tie.Need-same-length-11
 same-length-11 c = search needs
@@ -95,7 +152,12 @@ same-length-12 : tie.Need-same-length-12
 same-length-12 c = search needs
 
 returns-7 : tie.Need-returns-7
-returns-7 c = handles (c .before .before .before .before .before .before .before .before .before .before .before .before .before .before .before .before .before .before .before .before .before .args .store .now) (c .before .before .before .before .before .before .before .before .before .before .before .before .before .before .before .before .before .before .before .before .before .args .clock) (c .before .before .before .before .before .before .before .before .before .before .before .before .before .before .before .before .before .before .before .before .before .args .time) (c .before .before .before .before .before .before .before .before .before .before .before .before .before .before .before .before .before .before .before .before .before .args .frame .now) (c .before .before .before .before .before .before .before .before .before .before .before .before .before .before .before .before .before .before .before .before .before .args .reply .now) (c .before .before .before .before .before .before .before .before .before .before .before .before .before .before .before .before .before .if1 .left) _ _ _ _ (served (c .before .before .before .before .before .before .before .before .before .before .before .before .before .before .before .before .before .before .before .before .before .args .store .now) (c .before .before .before .before .before .before .before .before .before .before .before .before .before .before .before .before .before .before .before .before .before .args .clock) (c .before .before .before .before .before .before .before .before .before .before .before .before .before .before .before .before .before .before .before .before .before .args .time) (c .before .before .before .before .before .before .before .before .before .before .before .before .before .before .before .before .before .before .before .before .before .args .frame .now) (c .before .before .before .before .before .before .before .before .before .before .before .before .before .before .before .before .before .before .before .before .before .args .reply .now) (sym (c .before .before .before .before .before .before .before .before .before .before .before .before .before .before .before .is-sound .ensures) ∙ not-false _ (c .before .before .before .before .before .before .before .before .before .before .before .before .before .before .if2 .left)) (c .before .before .before .before .before .before .before .before .before .before .before .before .before .if3 .left) (c .before .before .before .before .before .before .before .before .before .before .before .if4 .left) (sym (c .before .before .before .before .before .before .before .before .before .before .is-reply .ensures) ∙ c .before .before .before .before .before .before .before .before .before .if5 .left) _ (c .before .before .before .before .before .before .before .before .read .ensures .means)) (c .before .before .before .before .serve .ensures)
+returns-7 c =
+    let k = c .before .before .before .before .before .before .before .before .before .before in
+    let f = k .before .before .before .before .before .before .before .before .before in
+    let a = f .before .before .before .before .args in
+    handles (a .store .now) (a .clock) (a .time) (a .frame .now) (a .reply .now) (f .if1 .left) _ _ _ _
+    (was-read (a .store .now) (a .clock) (a .time) (a .frame .now) _ _ (c .before .before .before .before .before .before .before .before .outcome .given .1) ∙ by-outcome k) (c .before .before .before .before .serve .ensures)
 
 pub handle-spec : {M : Type 1} → statement M
 handle-spec =
@@ -121,7 +183,9 @@ handle-spec =
     same-length-8
     returns-5
     read-requires
-    enum-known-message
+    enum-known-outcome
+    enum-told
+    why-requires
     refuse-requires-5
     same-length-9
     same-length-10

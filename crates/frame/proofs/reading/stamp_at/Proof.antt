@@ -27,7 +27,7 @@ cast-logical : tie.Need-cast-logical
 cast-logical c =
     let a = c .before .before .before .before .args in
     let n = c .before .before .before .before .pre in
-    let l = number-lt (a .body .now) (λ i. c .before .before .shared-slice-known2 .given i .fits) (a .at + 6) 2 (omega arith) in
+    let l = number-lt (a .frame .now) (λ i. c .before .before .shared-slice-known2 .given i .fits) (a .at + 6) 2 (omega arith) in
     omega (arith, c .number-at2 .ensures)
 
 returns : tie.Need-returns
@@ -35,7 +35,7 @@ unfolding stampIn
 returns c =
     let a = c .before .before .before .before .args in
     let n = c .before .before .before .before .pre in
-    let node : getD (a .body .now) (a .at + 8) 0 ≡ numberAt (a .at + 8) 1 (a .body .now) = sym (number-byte (a .at + 8) (a .body .now) (omega arith)) in
+    let node : getD (a .frame .now) (a .at + 8) 0 ≡ numberAt (a .at + 8) 1 (a .frame .now) = sym (number-byte (a .at + 8) (a .frame .now) (omega arith)) in
     λ i. record { phys = c .before .number-at .ensures i; logical = c .number-at2 .ensures i; node = node i }
 
 pub stamp-at-spec : {M : Type 1} → statement M

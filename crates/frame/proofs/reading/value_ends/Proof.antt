@@ -7,7 +7,7 @@ add-if1 : tie.Need-add-if1
 add-if1 c = search needs
 
 returns : tie.Need-returns
-returns c = let a = c .before .before .args in ends-short (a .at) (a .body .now) (c .if1 .taken)
+returns c = let a = c .before .before .args in ends-short (a .at) (a .frame .now) (c .if1 .taken)
 
 number-at-requires : tie.Need-number-at-requires
 number-at-requires c κs = search needs
@@ -19,7 +19,7 @@ sub-result-2 : tie.Need-sub-result-2
 sub-result-2 c = search needs
 
 returns-2 : tie.Need-returns-2
-returns-2 c = let a = c .before .before .before .args in ends-by-length (a .at) (a .body .now) (c .number-at .result) (c .before .if1 .left) (c .number-at .ensures)
+returns-2 c = let a = c .before .before .before .args in ends-by-length (a .at) (a .frame .now) (c .number-at .result) (c .before .if1 .left) (c .number-at .ensures)
 
 pub value-ends-spec : {M : Type 1} → statement M
 value-ends-spec =
