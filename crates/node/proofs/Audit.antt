@@ -90,7 +90,7 @@ module _ (s : List ℕ) (h : sound s ≡ true) where
   pub unchanged-safe : Safe s s
   unchanged-safe = (h, λ g m. still g (entriesOf s) g (find-mem (entriesOf s) (ordered s h) m) (beats-irrefl g))
 
-  kept-safe : (e : Entry) (s′ : List ℕ) → Keeps s (put e (entriesOf s)) s′ → Safe s s′
+  pub kept-safe : (e : Entry) (s′ : List ℕ) → Keeps s (put e (entriesOf s)) s′ → Safe s s′
   kept-safe e s′ k = (k .sound, rw (k .holds) (put-still e (entriesOf s) (ordered s h)))
 
 pub never-loses-or-lowers : NeverLosesOrLowers

@@ -5,4 +5,5 @@ pub mod Handling
 pub mod Telling
 pub mod Deeds
 pub mod Audit
+pub mod Calls
 pub mod WholeCalls

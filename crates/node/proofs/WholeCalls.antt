@@ -1,16 +1,18 @@
--- What holds of a request, of the whole call.
+-- What holds of whole calls.
 use Prim.Native.Nat.{ℕ, _^_, _≤_, _<_}
-use native.Mathlib.Omega.{arith}
 use mathlib.Core.Path.{_≡_, refl, sym, ap, _∙_}
 use mathlib.Core.Logic.{inl, inr}
 use mathlib.Core.Bool.{true, false, not, _||_}
 use mathlib.Core.List.{List}
+use mathlib.Core.Option.{Option, none, some}
 use lib.ListN.{length}
 use lib.Dec.{ltb, leb, eqb}
 use borrow.Author.Tests.{eqb-true, eqb-false, lt-leb, le-ltb}
 use Rattle.wire.specs.Number.{Bytes}
 use Rattle.wire.proofs.Tests.{test}
-use Rattle.entry.specs.Entry.{badTime}
+use Rattle.wire.proofs.Order.{sameBytes-refl}
+use Rattle.entry.specs.Order.{stampBelow}
+use Rattle.entry.specs.Entry.{Entry, beats, badTime}
 use Rattle.clock.specs.declared.Clock.{Clock}
 use Rattle.frame.specs.Message.{Message, InRange}
 use Rattle.frame.specs.Message as message
@@ -19,56 +21,27 @@ use Rattle.frame.specs.Reading.{Outcome, typeIn, readFrame}
 use Rattle.frame.specs.Reading as reading
 use Rattle.frame.proofs.RoundTrips.{read-is-taken, read-has-type}
 use Rattle.frame.proofs.ByType.{either}
-use Rattle.image.specs.Image.{sound}
+use Rattle.image.specs.Image.{entriesOf, sound}
+use Rattle.store.specs.Held.{put, find}
 use Rattle.store.specs.Lookup.{lookupAnswer, valuePart}
+use Rattle.store.specs.Kept.{Representable, Keeps}
+use Rattle.store.proofs.HeldLaws.{better, find-put}
+use Rattle.store.proofs.OnSound.{ordered}
 use Rattle.node.specs.Handler.{Served, done, refused, serve, serveOutcome, serveFrame, settle, handled}
-use Rattle.node.specs.Meaning.{AcceptedCallServes, StaleFrameChangesNothing, CallNeverLosesOrLowers, GetFrameChangesNothing, GetsAfter, GetFrameAfterPutFrame, GetFrameAfterDelFrame}
-use Rattle.node.proofs.Deeds.{no-done, Stays, gets-stays}
-use Rattle.node.proofs.Audit.{Safe, unchanged-safe, refusal-changes-nothing, stale-replica-changes-nothing, get-after-put, get-after-del, never-loses-or-lowers}
-use Rattle.node.proofs.Telling.{Tellable, frame-tellable}
+use Rattle.node.specs.Meaning.{AcceptedCallServes, StaleFrameChangesNothing, CallNeverLosesOrLowers, heldAfter, AcceptedReplicaIsHeld}
+use Rattle.node.specs.Meaning.{GetFrameChangesNothing, GetsAfter, GetFrameAfterPutFrame, GetFrameAfterDelFrame}
+use Rattle.node.proofs.Deeds.{Stays, gets-stays, Offers, replica-done}
+use Rattle.node.proofs.Audit.{unchanged-safe, kept-safe, took-keeps, refusal-changes-nothing, stale-replica-changes-nothing}
+use Rattle.node.proofs.Audit.{get-after-put, get-after-del, never-loses-or-lowers}
+use Rattle.node.proofs.Calls.{Wrote, served-call, call-deed}
 
--- ---- a call that is not refused
-pub record Done (s : List ℕ) (c : Clock) (reply : List ℕ) (x : Served) : Type 0 where
-  pub next : Clock
-  pub says : Message
-  pub is : x ≡ done (settle s c reply x .store) next says
-
-settled-done : (s : List ℕ) (c : Clock) (reply : List ℕ) (x : Served) → Tellable x → settle s c reply x .refusal ≡ 0 → Done s c reply x
-unfolding settle
-settled-done s c reply (done s′ d m) t z = record { next = d; says = m; is = refl }
-settled-done s c reply (refused n) t z = let p : 0 < n = t .0 in absurd (omega arith)
-
-module _ (s : List ℕ) (c : Clock) (now : ℕ) (frame : List ℕ) where
-  -- a frame that is served has passed every check
-  frame-served : (s′ : List ℕ) (d : Clock) (m′ : Message) → serveFrame s c now frame ≡ done s′ d m′
-      → (sound s ≡ true) × (serveOutcome s c now (readFrame frame) ≡ done s′ d m′)
-  unfolding serveFrame
-  frame-served s′ d m′ e = elim (test (sound s)) [
-    | inl h ↦ elim (test (badTime now || badTime (c .phys))) [
-      | inl p ↦ no-done 9 s′ d m′ (rw (h, p) at e)
-      | inr p ↦ elim (test (leb 16 (typeIn frame))) [
-        | inl q ↦ no-done 3 s′ d m′ (rw (h, p, q) at e)
-        | inr q ↦ (h, rw (h, p, q) at e)
-      ]
-    ]
-    | inr h ↦ no-done 5 s′ d m′ (rw h at e)
-  ]
-
-  call-done : (reply : List ℕ) → handled s c now frame reply .refusal ≡ 0
-      → (handled s c now frame reply ≡ settle s c reply (serveFrame s c now frame)) × Done s c reply (serveFrame s c now frame)
-  unfolding handled
-  call-done reply z = elim (test (ltb (length reply) 600)) [
-    | inl p ↦ let a : _≡_ {A = ℕ} 4 0 = rw p at z in absurd (eqb-false 4 0 refl a)
-    | inr p ↦ (rw p, settled-done s c reply (serveFrame s c now frame) (frame-tellable s c now frame) (rw p at z))
-  ]
+same-message : {o : Outcome} {m n : Message} → o ≡ reading.message m → o ≡ reading.message n → m ≡ n
+same-message p q = cc
 
 pub accepted-call-serves : AcceptedCallServes
-unfolding serveOutcome
 accepted-call-serves s c now frame reply m z e =
-    let k = call-done s c now frame reply z in
-    let d = k .1 in
-    let f = frame-served s c now frame (settle s c reply (serveFrame s c now frame) .store) (d .next) (d .says) (d .is) in
-    (f .0, record { next = d .next; says = d .says; is = rw (k .0) (rw e at (f .1)) })
+    let k = served-call s c now frame reply z in
+    (k .is-sound, record { next = handled s c now frame reply .clock; says = k .says; is = rw (same-message e (k .reads)) (k .is) })
 
 pub stale-frame-changes-nothing : StaleFrameChangesNothing
 stale-frame-changes-nothing s c now frame reply e h r f b = elim (test (eqb (handled s c now frame reply .refusal) 0)) [
@@ -79,24 +52,38 @@ stale-frame-changes-nothing s c now frame reply e h r f b = elim (test (eqb (han
   | inr p ↦ refusal-changes-nothing s c now frame reply (eqb-false _ 0 p) .0
 ]
 
-module _ (s : List ℕ) (c : Clock) (now : ℕ) (frame reply : List ℕ) (n : c .node < 2 ^ 8) (z : handled s c now frame reply .refusal ≡ 0) (bytes : Bytes frame) where
-  accepted-safe : (o : Outcome) → readFrame frame ≡ o → Safe s (handled s c now frame reply .store)
-  unfolding serveOutcome
-  accepted-safe (reading.message m) e =
-      let a = accepted-call-serves s c now frame reply m z e in
-      let q = a .1 in
-      never-loses-or-lowers s (handled s c now frame reply .store) c (q .next) now m (q .says) (a .0) n (read-is-taken frame m bytes e .1) (q .is)
-  accepted-safe (reading.refused j) e =
-      let d = call-done s c now frame reply z .1 in
-      let s′ = settle s c reply (serveFrame s c now frame) .store in
-      let f = frame-served s c now frame s′ (d .next) (d .says) (d .is) in
-      no-done j s′ (d .next) (d .says) (rw e at (f .1))
+-- ---- what any call leaves
+module _ (s : List ℕ) (c : Clock) (now : ℕ) (frame reply : List ℕ) (bytes : Bytes frame) (n : c .node < 2 ^ 8) (w : Wrote s c now frame reply) where
+  abbrev o : Offers s c (w .asks) (handled s c now frame reply .store) (handled s c now frame reply .clock)
+  o = w .offers
+
+  wrote-fits : Representable (o .entry)
+  wrote-fits = o .fits n (read-is-taken frame (w .asks) bytes (w .reads) .1)
+
+  wrote-keeps : Keeps s (put (o .entry) (entriesOf s)) (handled s c now frame reply .store)
+  wrote-keeps = took-keeps s (w .is-sound) (o .entry) (handled s c now frame reply .store) (o .took) wrote-fits
 
 pub call-never-loses-or-lowers : CallNeverLosesOrLowers
-call-never-loses-or-lowers s c now frame reply bytes h n = elim (test (eqb (handled s c now frame reply .refusal) 0)) [
-  | inl p ↦ accepted-safe s c now frame reply n (eqb-true _ 0 p) bytes (readFrame frame) refl
-  | inr p ↦ rw (refusal-changes-nothing s c now frame reply (eqb-false _ 0 p) .0) (unchanged-safe s h)
+call-never-loses-or-lowers s c now frame reply bytes h n = elim (call-deed s c now frame reply) [
+  | inl q ↦ rw (q .0) (unchanged-safe s h)
+  | inr w ↦ kept-safe s h (w .offers .entry) (handled s c now frame reply .store) (wrote-keeps s c now frame reply bytes n w)
 ]
+
+-- ---- a REPL frame
+better-is : (e : Entry) (x : Option Entry) → better e x ≡ some (heldAfter e x)
+unfolding better beats
+better-is e none = refl
+better-is e (some h) = elim (test (stampBelow (h .stamp) (e .stamp))) [ inl p ↦ rw p | inr p ↦ rw p ]
+
+pub accepted-replica-is-held : AcceptedReplicaIsHeld
+unfolding serve
+accepted-replica-is-held s c now frame reply e bytes r z =
+    let k = accepted-call-serves s c now frame reply (message.repl e) z r in
+    let t = handled s c now frame reply .store in
+    let i = read-is-taken frame (message.repl e) bytes r .1 in
+    let took = replica-done s c now e t (k .1 .next) (k .1 .says) (k .1 .is) .took in
+    let keeps = took-keeps s (k .0) e t took (record { logical = i .0; node = i .1 }) in
+    ap (find (e .key)) (keeps .holds) ∙ find-put (e .key) e (entriesOf s) (ordered s (k .0)) ∙ rw (sameBytes-refl (e .key)) (better-is e _)
 
 -- ---- a GET frame
 settled-stays : (s : List ℕ) (c : Clock) (reply : List ℕ) (x : Served) → Stays s c x → (settle s c reply x .store ≡ s) × (settle s c reply x .clock ≡ c)

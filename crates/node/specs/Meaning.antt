@@ -1,9 +1,9 @@
 -- What an auditor would ask of the handler.
 use Prim.Native.Nat.{ℕ, _^_, _≤_, _<_}
 use mathlib.Core.Path.{_≡_}
-use mathlib.Core.Bool.{true, false}
+use mathlib.Core.Bool.{true, false, cond}
 use mathlib.Core.List.{List}
-use mathlib.Core.Option.{some}
+use mathlib.Core.Option.{Option, none, some}
 use lib.ListN.{length, take}
 use Rattle.wire.specs.Number.{Bytes}
 use Rattle.entry.specs.Order.{stampBelow}
@@ -84,6 +84,17 @@ StaleFrameChangesNothing = (s : List ℕ) (c : Clock) (now : ℕ) (frame reply :
 abbrev pub CallNeverLosesOrLowers : Type 0
 CallNeverLosesOrLowers = (s : List ℕ) (c : Clock) (now : ℕ) (frame reply : List ℕ) → Bytes frame → sound s ≡ true → c .node < 2 ^ 8
     → (sound (handled s c now frame reply .store) ≡ true) × ((h : Entry) → h ∈ entriesOf s → StillHeld h (entriesOf (handled s c now frame reply .store)))
+
+-- the entry held for a key after a replica of it: the replica as it came, unless the one held before is not lower
+abbrev pub heldAfter : Entry → Option Entry → Entry
+heldAfter e none = e
+heldAfter e (some h) = cond (stampBelow (h .stamp) (e .stamp)) e h
+
+-- an accepted REPL leaves its entry held with its stamp unaltered, far ahead or not, unless the held one is not lower
+abbrev pub AcceptedReplicaIsHeld : Type 0
+AcceptedReplicaIsHeld = (s : List ℕ) (c : Clock) (now : ℕ) (frame reply : List ℕ) (e : Entry) → Bytes frame → readFrame frame ≡ message (repl e)
+    → handled s c now frame reply .refusal ≡ 0
+    → find (e .key) (entriesOf (handled s c now frame reply .store)) ≡ some (heldAfter e (find (e .key) (entriesOf s)))
 
 -- a GET frame leaves any store and any clock as they came, whatever else is given
 abbrev pub GetFrameChangesNothing : Type 0
