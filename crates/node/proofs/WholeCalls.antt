@@ -1,5 +1,6 @@
 -- What holds of whole calls.
 use Prim.Native.Nat.{ℕ, _^_, _≤_, _<_}
+use native.Mathlib.Omega.{arith}
 use mathlib.Core.Path.{_≡_, refl, sym, ap, _∙_}
 use mathlib.Core.Logic.{inl, inr}
 use mathlib.Core.Bool.{true, false, not, _||_}
@@ -9,11 +10,14 @@ use lib.ListN.{length}
 use lib.Dec.{ltb, leb, eqb}
 use borrow.Author.Tests.{eqb-true, eqb-false, lt-leb, le-ltb}
 use Rattle.wire.specs.Number.{Bytes}
-use Rattle.wire.proofs.Tests.{test}
-use Rattle.wire.proofs.Order.{sameBytes-refl}
+use Rattle.wire.specs.Order.{sameBytes}
+use Rattle.wire.proofs.Tests.{test, false-of}
+use Rattle.wire.proofs.Order.{sameBytes-eq, sameBytes-refl}
 use Rattle.entry.specs.Order.{stampBelow}
 use Rattle.entry.specs.Entry.{Entry, beats, badTime}
+use Rattle.entry.proofs.Order.{stampBelow-asym, stampBelow-irrefl}
 use Rattle.clock.specs.declared.Clock.{Clock}
+use Rattle.clock.specs.Clock.{stampOf}
 use Rattle.frame.specs.Message.{Message, InRange}
 use Rattle.frame.specs.Message as message
 use Rattle.frame.specs.Layout.{typeOf}
@@ -29,6 +33,7 @@ use Rattle.store.proofs.HeldLaws.{better, find-put}
 use Rattle.store.proofs.OnSound.{ordered}
 use Rattle.node.specs.Handler.{Served, done, refused, serve, serveOutcome, serveFrame, settle, handled}
 use Rattle.node.specs.Meaning.{AcceptedCallServes, StaleFrameChangesNothing, CallNeverLosesOrLowers, heldAfter, AcceptedReplicaIsHeld}
+use Rattle.node.specs.Meaning.{OtherKeysUntouched, ClockNeverLowered, FoundOrOffered}
 use Rattle.node.specs.Meaning.{GetFrameChangesNothing, GetsAfter, GetFrameAfterPutFrame, GetFrameAfterDelFrame}
 use Rattle.node.proofs.Deeds.{Stays, gets-stays, Offers, replica-done}
 use Rattle.node.proofs.Audit.{unchanged-safe, kept-safe, took-keeps, refusal-changes-nothing, stale-replica-changes-nothing}
@@ -67,6 +72,27 @@ pub call-never-loses-or-lowers : CallNeverLosesOrLowers
 call-never-loses-or-lowers s c now frame reply bytes h n = elim (call-deed s c now frame reply) [
   | inl q ↦ rw (q .0) (unchanged-safe s h)
   | inr w ↦ kept-safe s h (w .offers .entry) (handled s c now frame reply .store) (wrote-keeps s c now frame reply bytes n w)
+]
+
+pub other-keys-untouched : OtherKeysUntouched
+other-keys-untouched s c now frame reply k bytes n other = elim (call-deed s c now frame reply) [
+  | inl q ↦ ap (λ (t : List ℕ). find k (entriesOf t)) (q .0)
+  | inr w ↦
+      let e = w .offers .entry in
+      let d : sameBytes k (e .key) ≡ false = false-of (sameBytes k (e .key)) (λ p. other (w .asks) (w .reads) (sameBytes-eq k (e .key) p ∙ w .offers .key)) in
+      ap (find k) (wrote-keeps s c now frame reply bytes n w .holds) ∙ find-put k e (entriesOf s) (ordered s (w .is-sound)) ∙ rw d
+]
+
+pub clock-never-lowered : ClockNeverLowered
+clock-never-lowered s c now frame reply = elim (call-deed s c now frame reply) [
+  | inl q ↦ rw (q .1) (record { stamp = stampBelow-irrefl (stampOf c); skew = omega arith; node = refl })
+  | inr w ↦ let r = w .offers .rises in record { stamp = stampBelow-asym (stampOf c) (stampOf (handled s c now frame reply .clock)) (r .above); skew = r .skew; node = r .node }
+]
+
+pub found-or-offered : FoundOrOffered
+found-or-offered s c now frame reply bytes n = elim (call-deed s c now frame reply) [
+  | inl q ↦ inl (q .0)
+  | inr w ↦ inr (record { entry = w .offers .entry; fits = wrote-fits s c now frame reply bytes n w; left = w .offers .took .left })
 ]
 
 -- ---- a REPL frame

@@ -1,6 +1,7 @@
 -- What an auditor would ask of the handler.
 use Prim.Native.Nat.{ℕ, _^_, _≤_, _<_}
 use mathlib.Core.Path.{_≡_}
+use mathlib.Core.Logic.{_⊎_}
 use mathlib.Core.Bool.{true, false, cond}
 use mathlib.Core.List.{List}
 use mathlib.Core.Option.{Option, none, some}
@@ -9,10 +10,13 @@ use Rattle.wire.specs.Number.{Bytes}
 use Rattle.entry.specs.Order.{stampBelow}
 use Rattle.entry.specs.Entry.{Entry}
 use Rattle.clock.specs.declared.Clock.{Clock}
-use Rattle.frame.specs.Message.{Message, put, get, del, repl, value, notFound, err, InRange}
+use Rattle.clock.specs.Clock.{stampOf}
+use Rattle.frame.specs.Message.{Message, put, get, del, repl, value, notFound, err, keyOf, InRange}
 use Rattle.frame.specs.Reading.{message, readFrame}
 use Rattle.image.specs.Image.{sound, entriesOf}
 use Rattle.store.specs.Held.{_∈_, find}
+use Rattle.store.specs.Offer.{afterOffer}
+use Rattle.store.specs.Kept.{Representable}
 use Rattle.node.specs.Handler.{Result, done, serve, settle, handled}
 
 -- a message is served, and leaves the store s′
@@ -96,6 +100,20 @@ AcceptedReplicaIsHeld = (s : List ℕ) (c : Clock) (now : ℕ) (frame reply : Li
     → handled s c now frame reply .refusal ≡ 0
     → find (e .key) (entriesOf (handled s c now frame reply .store)) ≡ some (heldAfter e (find (e .key) (entriesOf s)))
 
+-- a call, refused or not, leaves the entries of keys other than that of its frame's message as they were
+abbrev pub OtherKeysUntouched : Type 0
+OtherKeysUntouched = (s : List ℕ) (c : Clock) (now : ℕ) (frame reply k : List ℕ) → Bytes frame → c .node < 2 ^ 8
+    → ((m : Message) → readFrame frame ≡ message m → k ≡ keyOf m → ⊥) → find k (entriesOf (handled s c now frame reply .store)) ≡ find k (entriesOf s)
+
+-- no call lowers the clock or its skew count, or changes its node id
+pub record NotLowered (c d : Clock) : Type 0 where
+  pub stamp : stampBelow (stampOf d) (stampOf c) ≡ false
+  pub skew : c .skew ≤ d .skew
+  pub node : d .node ≡ c .node
+
+abbrev pub ClockNeverLowered : Type 0
+ClockNeverLowered = (s : List ℕ) (c : Clock) (now : ℕ) (frame reply : List ℕ) → NotLowered c (handled s c now frame reply .clock)
+
 -- a GET frame leaves any store and any clock as they came, whatever else is given
 abbrev pub GetFrameChangesNothing : Type 0
 GetFrameChangesNothing = (s : List ℕ) (c : Clock) (now : ℕ) (frame reply k : List ℕ) → readFrame frame ≡ message (get k)
@@ -113,3 +131,15 @@ GetFrameAfterPutFrame = (k v : List ℕ) → GetsAfter (put k v) k (value v)
 
 abbrev pub GetFrameAfterDelFrame : Type 0
 GetFrameAfterDelFrame = (k : List ℕ) → GetsAfter (del k) k notFound
+
+-- ---- every store that a call leaves
+-- the store t is the one after an offer of one entry that `offer` can be given
+pub record AfterOffer (s t : List ℕ) : Type 0 where
+  pub entry : Entry
+  pub fits : Representable entry
+  pub left : t ≡ afterOffer s entry
+
+-- the store that a call leaves is the one that it found, or one after an offer
+abbrev pub FoundOrOffered : Type 0
+FoundOrOffered = (s : List ℕ) (c : Clock) (now : ℕ) (frame reply : List ℕ) → Bytes frame → c .node < 2 ^ 8
+    → (handled s c now frame reply .store ≡ s) ⊎ AfterOffer s (handled s c now frame reply .store)
