@@ -28,7 +28,7 @@ use Rattle.frame.proofs.ByType.{either}
 use Rattle.image.specs.Image.{entriesOf, sound}
 use Rattle.store.specs.Held.{put, find}
 use Rattle.store.specs.Lookup.{lookupAnswer, valuePart}
-use Rattle.store.specs.Kept.{Representable, Keeps}
+use Rattle.store.specs.Meaning.{Representable, Keeps}
 use Rattle.store.proofs.HeldLaws.{better, find-put}
 use Rattle.store.proofs.OnSound.{ordered}
 use Rattle.node.specs.Handler.{Served, done, refused, serve, serveOutcome, serveFrame, settle, handled}

@@ -16,7 +16,7 @@ use Rattle.frame.specs.Reading.{message, readFrame}
 use Rattle.image.specs.Image.{sound, entriesOf}
 use Rattle.store.specs.Held.{_∈_, find}
 use Rattle.store.specs.Offer.{afterOffer}
-use Rattle.store.specs.Kept.{Representable}
+use Rattle.store.specs.Meaning.{Representable}
 use Rattle.node.specs.Handler.{Result, done, serve, settle, handled}
 
 -- a message is served, and leaves the store s′
