@@ -217,13 +217,14 @@ fn without_remarks(value: &str) -> String {
     kept.trim().to_string()
 }
 
-/// The crates and names of a value such as "wire `a`, `b`; entry `c`".
+/// The crates and names of a value such as "wire `a`, `b`; entry `c`"; a remark
+/// that was taken out may have left a blank.
 fn cited(value: &str) -> Option<Vec<(String, String)>> {
     let mut all = Vec::new();
     for group in value.split("; ") {
         let (krate, list) = group.split_once(' ')?;
         for name in list.split(", ") {
-            let name = name.strip_prefix('`')?.strip_suffix('`')?;
+            let name = name.trim().strip_prefix('`')?.strip_suffix('`')?;
             all.push((krate.to_string(), name.to_string()));
         }
     }
