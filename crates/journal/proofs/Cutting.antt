@@ -1,41 +1,38 @@
 -- The cases of a cut.
 use mathlib.Core.Path.{_≡_, _∙_}
-use mathlib.Core.Bool.{true, false, _||_}
+use mathlib.Core.Bool.{true, false}
 use mathlib.Core.List.{List}
 use Prim.Native.Nat.{ℕ, _+_, _≤_, _<_}
 use native.Mathlib.Omega.{arith}
 use lib.ListN.{length, take, drop}
-use lib.Dec.{ltb, eqb}
-use borrow.Author.Tests.{lt-ltb, le-ltb, eq-eqb, ne-eqb, ltb-false}
-use mathlib.Core.Logic.{inl, inr}
-use Rattle.wire.proofs.Tests.{test}
+use borrow.Author.Tests.{lt-ltb, le-ltb, eq-eqb, ne-eqb}
 use Rattle.wire.specs.Number.{num}
 use Rattle.wire.specs.Fill.{field}
 use Rattle.wire.proofs.Fields.{num-field}
-use Rattle.journal.specs.Journal.{timeIn, lenIn, whole, none, pieceOf}
+use Rattle.journal.specs.Journal.{timeIn, lenIn, whole, noRecord, pieceOf}
 
 module _ (s : List ℕ) where
-  pub cut-end : length s ≡ 0 → none true 0 ≡ pieceOf s
+  pub cut-end : length s ≡ 0 → noRecord true 0 ≡ pieceOf s
   unfolding pieceOf
   cut-end h = rw (eq-eqb (length s) 0 h)
 
   module _ (n : length s ≡ 0 → ⊥) where
-    pub cut-head : length s < 8 → none true 3 ≡ pieceOf s
+    pub cut-head : length s < 8 → noRecord true 3 ≡ pieceOf s
     unfolding pieceOf
     cut-head h = rw (ne-eqb (length s) 0 n, lt-ltb (length s) 8 h)
 
     module _ (m : 8 ≤ length s) where
-      pub cut-small : lenIn s < 6 → none false 3 ≡ pieceOf s
+      pub cut-small : lenIn s < 6 → noRecord false 3 ≡ pieceOf s
       unfolding pieceOf
       cut-small h = rw (ne-eqb (length s) 0 n, le-ltb (length s) 8 m, lt-ltb (lenIn s) 6 h)
 
       module _ (a : 6 ≤ lenIn s) where
-        pub cut-large : 598 < lenIn s → none false 3 ≡ pieceOf s
+        pub cut-large : 598 < lenIn s → noRecord false 3 ≡ pieceOf s
         unfolding pieceOf
         cut-large h = rw (ne-eqb (length s) 0 n, le-ltb (length s) 8 m, le-ltb (lenIn s) 6 a, lt-ltb 598 (lenIn s) h)
 
         module _ (b : lenIn s ≤ 598) where
-          pub cut-body : length s < 8 + lenIn s → none true 3 ≡ pieceOf s
+          pub cut-body : length s < 8 + lenIn s → noRecord true 3 ≡ pieceOf s
           unfolding pieceOf
           cut-body h = rw (ne-eqb (length s) 0 n, le-ltb (length s) 8 m, le-ltb (lenIn s) 6 a, le-ltb 598 (lenIn s) b, lt-ltb (length s) (8 + lenIn s) h)
 
@@ -51,26 +48,3 @@ module _ (s : List ℕ) where
   pub time-read : (n : ℕ) → n ≡ num (take 8 (take 6 (drop 0 s))) → n ≡ timeIn s
   unfolding timeIn field
   time-read n e = e ∙ num-field 0 6 s (omega arith)
-
--- a whole record lies within the bytes at hand
-pub cut-within : (s : List ℕ) (t e : ℕ) → pieceOf s ≡ whole t e → (6 ≤ e) × (e ≤ length s)
-unfolding pieceOf
-cut-within s t e h = elim (test (eqb (length s) 0)) [
-  | inl p ↦ not-record (let q : none true 0 ≡ whole t e = rw p at h in cc)
-  | inr p ↦ elim (test (ltb (length s) 8)) [
-    | inl q ↦ not-record (let r : none true 3 ≡ whole t e = rw (p, q) at h in cc)
-    | inr q ↦ elim (test (ltb (lenIn s) 6 || ltb 598 (lenIn s))) [
-      | inl r ↦ not-record (let k : none false 3 ≡ whole t e = rw (p, q, r) at h in cc)
-      | inr r ↦ elim (test (ltb (length s) (8 + lenIn s))) [
-        | inl k ↦ not-record (let j : none true 3 ≡ whole t e = rw (p, q, r, k) at h in cc)
-        | inr k ↦
-            let j : whole (timeIn s) (8 + lenIn s) ≡ whole t e = rw (p, q, r, k) at h in
-            let i : 8 + lenIn s ≡ e = cc in
-            (omega arith, omega (arith, ltb-false (length s) (8 + lenIn s) k))
-      ]
-    ]
-  ]
-]
-  where
-    not-record : {A : Type 0} → _≡_ {A = ℕ} 0 1 → A
-    not-record z = absurd (omega arith)

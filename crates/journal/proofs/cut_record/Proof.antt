@@ -31,7 +31,8 @@ returns-4 : tie.Need-returns-4
 returns-4 c =
     let s = c .before .before .before .before .before .before .before .args .bytes .now in
     let l = len-read s _ (c .before .before .get-be .ensures) in
-    cut-large s (c .before .before .before .before .before .if1 .left) (c .before .before .before .before .if2 .left) (rw l at (c .before .if3 .left)) (rw l at (c .if4 .taken))
+    cut-large s (c .before .before .before .before .before .if1 .left) (c .before .before .before .before .if2 .left) (rw l at (c .before .if3 .left))
+    (rw l at (c .if4 .taken))
 
 add-end : tie.Need-add-end
 add-end c = search needs
@@ -40,7 +41,8 @@ returns-5 : tie.Need-returns-5
 returns-5 c =
     let s = c .before .before .before .before .before .before .before .before .args .bytes .now in
     let l = len-read s _ (c .before .before .before .get-be .ensures) in
-    cut-body s (c .before .before .before .before .before .before .if1 .left) (c .before .before .before .before .before .if2 .left) (rw l at (c .before .before .if3 .left)) (rw l at (c .before .if4 .left)) (rw l at (c .if5 .taken))
+    cut-body s (c .before .before .before .before .before .before .if1 .left) (c .before .before .before .before .before .if2 .left)
+    (rw l at (c .before .before .if3 .left)) (rw l at (c .before .if4 .left)) (rw l at (c .if5 .taken))
 
 sub-get-be-2 : tie.Need-sub-get-be-2
 sub-get-be-2 c = search needs
@@ -59,7 +61,9 @@ returns-6 c =
     let s = c .before .before .before .before .before .before .before .before .before .before .args .bytes .now in
     let l = len-read s _ (c .before .before .before .before .before .get-be .ensures) in
     let t = time-read s _ (c .get-be2 .ensures) in
-    rw (t, l) (cut-whole s (c .before .before .before .before .before .before .before .before .if1 .left) (c .before .before .before .before .before .before .before .if2 .left) (rw l at (c .before .before .before .before .if3 .left)) (rw l at (c .before .before .before .if4 .left)) (rw l at (c .before .before .if5 .left)))
+    rw (t, l) (cut-whole s (c .before .before .before .before .before .before .before .before .if1 .left)
+    (c .before .before .before .before .before .before .before .if2 .left) (rw l at (c .before .before .before .before .if3 .left))
+    (rw l at (c .before .before .before .if4 .left)) (rw l at (c .before .before .if5 .left)))
 
 pub cut-record-spec : {M : Type 1} → statement M
 cut-record-spec =

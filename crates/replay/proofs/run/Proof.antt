@@ -1,12 +1,14 @@
 use borrow.Author.Needs.{needs}
-use mathlib.Core.Path.{_≡_}
+use mathlib.Core.Path.{_≡_, refl, sym, _∙_}
 use lib.ListN.{length}
-use Rattle.replay.specs.State.{Fits}
+use Rattle.replay.specs.State.{Fits, Stands}
+use Rattle.replay.proofs.Standing.{stands-first}
 use Rattle.replay.proofs.run.Statement.{statement}
 use Rattle.replay.proofs.run.Tie as tie
 
 abbrev Inv-loop : tie.InvT-loop
-Inv-loop store₀ reply₀ input₀ output₀ state₀ turns₀ store reply input output state turns = (length input ≡ 65536) × (length output ≡ 65536) × (length reply ≡ 600) × Fits 65536 65536 state × (length store ≡ length store₀)
+Inv-loop store₀ reply₀ input₀ output₀ state₀ turns₀ store reply input output state turns =
+    (Fits input output state × Stands store reply input state) × (length store ≡ length store₀) × (length reply ≡ length reply₀)
 
 abbrev μ-loop : tie.MeasureT-loop
 μ-loop store₀ reply₀ input₀ output₀ state₀ turns₀ store reply input output state turns = turns
@@ -21,7 +23,14 @@ fresh-requires : tie.Need-fresh-requires Inv-loop μ-loop
 fresh-requires c κs = search needs
 
 loop-holds : tie.Need-loop-holds Inv-loop μ-loop
-loop-holds c = search needs
+loop-holds c =
+    let entry = c .before .before .before .before .before in (
+      stands-first (entry .args .store .now) (entry .args .reply .now) (c .before .before .large-buffer .result) (c .before .large-buffer2 .result)
+          (c .fresh .result)
+          (entry .pre .0) (entry .pre .1) (c .fresh .ensures) (sym (c .before .before .large-buffer .ensures)) (sym (c .before .large-buffer2 .ensures)),
+      refl,
+      refl,
+    )
 
 slice-aggregate-turn : tie.Need-slice-aggregate-turn Inv-loop μ-loop
 slice-aggregate-turn c = search needs
@@ -30,7 +39,9 @@ slice-aggregate-turn-2 : tie.Need-slice-aggregate-turn-2 Inv-loop μ-loop
 slice-aggregate-turn-2 c = search needs
 
 turn-requires : tie.Need-turn-requires Inv-loop μ-loop
-turn-requires c κs = search needs
+turn-requires c κs =
+    let l = c .before .before .before .before .before .before .loop in
+    (l .inv .0 .0, l .inv .0 .1, c .before .before .before .before .if1 .taken)
 
 sub-turns : tie.Need-sub-turns Inv-loop μ-loop
 sub-turns c = search needs
@@ -39,7 +50,10 @@ loop-less : tie.Need-loop-less Inv-loop μ-loop
 loop-less c = search needs
 
 loop-again : tie.Need-loop-again Inv-loop μ-loop
-loop-again c = search needs
+loop-again c =
+    let l = c .before .before .before .before .before .before .before .before .before .before .before .before .before .loop in
+    let made = c .before .before .before .before .before .before .turn in
+    (made .ensures, made .kept .0 ∙ l .inv .1, made .kept .1 .0 ∙ l .inv .2)
 
 same-length : tie.Need-same-length Inv-loop μ-loop
 same-length c = search needs

@@ -1,48 +1,52 @@
 use borrow.Author.Needs.{needs}
 use native.Mathlib.Omega.{arith}
-use mathlib.Core.Path.{sym, ap, _∙_}
-use Prim.Native.Nat.{_-_}
-use lib.ListN.{drop, length-take}
-use Rattle.journal.specs.Journal.{meaning}
-use Rattle.journal.proofs.Cutting.{cut-within}
+use mathlib.Core.Path.{refl, ap}
+use Prim.Native.Nat.{ℕ}
+use mathlib.Core.Bool.{true, false}
+use Rattle.wire.proofs.Tests.{clash}
+use Rattle.replayer.specs.Meaning.{isStop}
+use Rattle.replay.proofs.Standing.{taken-within, filled-within, read-room, stands-on, stands-filled}
 use Rattle.replay.proofs.turn.Statement.{statement}
 use Rattle.replay.proofs.turn.Tie as tie
 
-sub-cut-record : tie.Need-sub-cut-record
-sub-cut-record c = search needs
+sub-advance : tie.Need-sub-advance
+sub-advance c = search needs
 
-part-cut-record-start : tie.Need-part-cut-record-start
-part-cut-record-start c = search needs
+part-advance-start : tie.Need-part-advance-start
+part-advance-start c = search needs
 
-part-cut-record-end : tie.Need-part-cut-record-end
-part-cut-record-end c = search needs
+part-advance-end : tie.Need-part-advance-end
+part-advance-end c = search needs
 
-cut-record-requires : tie.Need-cut-record-requires
-cut-record-requires c κs = search needs
+advance-requires : tie.Need-advance-requires
+advance-requires c κs = search needs
 
-enum-known-cut : tie.Need-enum-known-cut
-enum-known-cut c = search needs
+add-left : tie.Need-add-left
+add-left c =
+    let called = c .before .before .before .before .before .before .before .before in
+    let entry = called .before .before .before .before .before .before .before .before .before .before in
+    let a = entry .args in
+    let t = taken-within (a .store .now) (a .reply .now) (a .input .now) (a .output .now) (a .state) (entry .pre .0) (entry .pre .1) (entry .pre .2) _
+    _ _ _ (called .advance .ensures) in
+    omega (arith, t, entry .pre .0 .within, entry .pre .0 .inputs)
 
-answer-requires : tie.Need-answer-requires
-answer-requires c κs = let a = c .before .before .before .before .before .before .before .before .before .before .before .before .before .before .args in let p = c .before .before .before .before .before .before .before .before .before .before .before .before .before .before .pre in let w = cut-within _ _ _ (sym (c .before .before .before .before .before .before .before .cut-record .ensures) ∙ ap meaning (c .before .before .before .before .before .cut .given .1)) in (p .0, p .1, p .2, p .3, w .0, omega (arith, w .1, length-take (a .state .end - a .state .at) (drop (a .state .at) (a .input .now)), p .0 .order))
+sub-write-all : tie.Need-sub-write-all
+sub-write-all c = search needs
 
-enum-told : tie.Need-enum-told
-enum-told c = search needs
+part-write-all-start : tie.Need-part-write-all-start
+part-write-all-start c = search needs
 
-stop-bad-requires : tie.Need-stop-bad-requires
-stop-bad-requires c κs = search needs
+part-write-all-end : tie.Need-part-write-all-end
+part-write-all-end c =
+    let called = c .before .before .before .before .before .before .before .before .before in
+    let entry = called .before .before .before .before .before .before .before .before .before .before in
+    let a = entry .args in
+    let w = filled-within (a .store .now) (a .reply .now) (a .input .now) (a .output .now) (a .state) (entry .pre .0) (entry .pre .1) (entry .pre .2)
+    _ _ _ _ (called .advance .ensures) in
+    omega (arith, w, called .advance .kept .1 .1 .1 .1 .1 .0, entry .pre .0 .outputs)
 
-enum-told-2 : tie.Need-enum-told-2
-enum-told-2 c = search needs
-
-read-on-requires : tie.Need-read-on-requires
-read-on-requires c κs = search needs
-
-enum-told-3 : tie.Need-enum-told-3
-enum-told-3 c = search needs
-
-read-on-requires-2 : tie.Need-read-on-requires-2
-read-on-requires-2 c κs = search needs
+write-all-requires : tie.Need-write-all-requires
+write-all-requires c κs = search needs
 
 same-length : tie.Need-same-length
 same-length c = search needs
@@ -57,7 +61,32 @@ same-length-4 : tie.Need-same-length-4
 same-length-4 c = search needs
 
 returns : tie.Need-returns
-returns c = search needs
+returns c =
+    let called = c .before .before .before .before .before .before .before .before .before .before .before .before in
+    let entry = called .before .before .before .before .before .before .before .before .before .before in
+    let a = entry .args in
+    stands-on (a .store .now) (a .reply .now) (a .input .now) (a .output .now) (a .state) (entry .pre .0) (entry .pre .1) (entry .pre .2)
+    _ _ _ _ (called .advance .ensures) (called .advance .kept .1 .1 .1 .1 .1 .0) false (λ h. clash h refl)
+
+enum-told : tie.Need-enum-told
+enum-told c = search needs
+
+refill-requires : tie.Need-refill-requires
+refill-requires c κs =
+    let called = c .before .before .before .before .before .before .before .before .before .before .before .before .before .before .before in
+    let entry = called .before .before .before .before .before .before .before .before .before .before in
+    let a = entry .args in
+    let t = taken-within (a .store .now) (a .reply .now) (a .input .now) (a .output .now) (a .state) (entry .pre .0) (entry .pre .1) (entry .pre .2) _
+    _ _ _ (called .advance .ensures) in
+    let r = read-room (a .store .now) (a .reply .now) (a .input .now) (a .output .now) (a .state) (entry .pre .0) (entry .pre .1) (entry .pre .2)
+    _ _ _ _ (called .advance .ensures) (c .before .enum-told .given .1) in
+    (t, entry .pre .0 .within, omega (arith, r, entry .pre .0 .inputs))
+
+enum-told-2 : tie.Need-enum-told-2
+enum-told-2 c = search needs
+
+enum-told-3 : tie.Need-enum-told-3
+enum-told-3 c = search needs
 
 same-length-5 : tie.Need-same-length-5
 same-length-5 c = search needs
@@ -65,17 +94,21 @@ same-length-5 c = search needs
 same-length-6 : tie.Need-same-length-6
 same-length-6 c = search needs
 
-returns-2 : tie.Need-returns-2
-returns-2 c = search needs
-
 same-length-7 : tie.Need-same-length-7
 same-length-7 c = search needs
 
 same-length-8 : tie.Need-same-length-8
 same-length-8 c = search needs
 
-returns-3 : tie.Need-returns-3
-returns-3 c = search needs
+returns-2 : tie.Need-returns-2
+returns-2 c =
+    let called = c .before .before .before .before .before .before .before .before .before .before .before .before .before .before .before .before .before .before in
+    let entry = called .before .before .before .before .before .before .before .before .before .before in
+    let a = entry .args in
+    let refilled = c .before .before .refill in
+    stands-filled (a .store .now) (a .reply .now) (a .input .now) (a .output .now) (a .state) (entry .pre .0) (entry .pre .1) (entry .pre .2)
+    _ _ _ _ (called .advance .ensures) (called .advance .kept .1 .1 .1 .1 .1 .0) (c .before .before .before .before .enum-told .given .1) _ _
+    (refilled .ensures) (refilled .kept .0)
 
 same-length-9 : tie.Need-same-length-9
 same-length-9 c = search needs
@@ -83,36 +116,74 @@ same-length-9 c = search needs
 same-length-10 : tie.Need-same-length-10
 same-length-10 c = search needs
 
+same-length-11 : tie.Need-same-length-11
+same-length-11 c = search needs
+
+same-length-12 : tie.Need-same-length-12
+same-length-12 c = search needs
+
+returns-3 : tie.Need-returns-3
+returns-3 c =
+    let called = c .before .before .before .before .before .before .before .before .before .before .before .before .before .before in
+    let entry = called .before .before .before .before .before .before .before .before .before .before in
+    let a = entry .args in
+    stands-on (a .store .now) (a .reply .now) (a .input .now) (a .output .now) (a .state) (entry .pre .0) (entry .pre .1) (entry .pre .2)
+    _ _ _ _ (called .advance .ensures) (called .advance .kept .1 .1 .1 .1 .1 .0) true (λ h. ap isStop (c .enum-told2 .given .1))
+
+same-length-13 : tie.Need-same-length-13
+same-length-13 c = search needs
+
+same-length-14 : tie.Need-same-length-14
+same-length-14 c = search needs
+
+same-length-15 : tie.Need-same-length-15
+same-length-15 c = search needs
+
+same-length-16 : tie.Need-same-length-16
+same-length-16 c = search needs
+
 returns-4 : tie.Need-returns-4
-returns-4 c = search needs
+returns-4 c =
+    let called = c .before .before .before .before .before .before .before .before .before .before .before .before .before .before in
+    let entry = called .before .before .before .before .before .before .before .before .before .before in
+    let a = entry .args in
+    stands-on (a .store .now) (a .reply .now) (a .input .now) (a .output .now) (a .state) (entry .pre .0) (entry .pre .1) (entry .pre .2)
+    _ _ _ _ (called .advance .ensures) (called .advance .kept .1 .1 .1 .1 .1 .0) false (λ h. clash h refl)
 
 pub turn-spec : {M : Type 1} → statement M
 turn-spec =
     tie.close
     (tie.spec
-    sub-cut-record
-    part-cut-record-start
-    part-cut-record-end
-    cut-record-requires
-    enum-known-cut
-    answer-requires
-    enum-told
-    stop-bad-requires
-    enum-told-2
-    read-on-requires
-    enum-told-3
-    read-on-requires-2
+    sub-advance
+    part-advance-start
+    part-advance-end
+    advance-requires
+    add-left
+    sub-write-all
+    part-write-all-start
+    part-write-all-end
+    write-all-requires
     same-length
     same-length-2
     same-length-3
     same-length-4
     returns
+    enum-told
+    refill-requires
+    enum-told-2
+    enum-told-3
     same-length-5
     same-length-6
-    returns-2
     same-length-7
     same-length-8
-    returns-3
+    returns-2
     same-length-9
     same-length-10
+    same-length-11
+    same-length-12
+    returns-3
+    same-length-13
+    same-length-14
+    same-length-15
+    same-length-16
     returns-4)

@@ -1,0 +1,28 @@
+use borrow.Author.Needs.{needs}
+use Rattle.replayer.proofs.goes_on.Statement.{statement}
+use Rattle.replayer.proofs.goes_on.Tie as tie
+
+enum-told : tie.Need-enum-told
+enum-told c = search needs
+
+sub-result : tie.Need-sub-result
+sub-result c = search needs
+
+enum-told-2 : tie.Need-enum-told-2
+enum-told-2 c = search needs
+
+enum-told-3 : tie.Need-enum-told-3
+enum-told-3 c = search needs
+
+returns : tie.Need-returns
+returns c = rw (c .before .enum-told .given .1)
+
+returns-2 : tie.Need-returns-2
+returns-2 c = search needs
+
+returns-3 : tie.Need-returns-3
+returns-3 c = search needs
+
+pub goes-on-spec : {M : Type 1} → statement M
+goes-on-spec =
+    tie.close (tie.spec enum-told sub-result enum-told-2 enum-told-3 returns returns-2 returns-3)
