@@ -5,8 +5,8 @@ TOOLS = rust/target/release
 SAMPLE = target/sample
 LIBRARY = target/staticlib/libcapi.a
 # The Rust crates with tests that link the proved library.
-LINKED = -p snowpulley-sys -p snowpulley -p snowpulley-cli -p snowpulley-differential
-.PHONY: run replay test proved lint reference tools tool expected tails library differential compared fuzz bench mutants wrong-answers fmt
+LINKED = -p snowpulley-sys -p snowpulley -p snowpulley-cli -p snowpulley-differential -p snowpulley-bench
+.PHONY: run replay test proved lint reference tools tool expected tails library differential compared fuzz bench performance sizes mutants wrong-answers fmt
 
 # $(call told,LOG,COMMAND): runs rt, and tells each crate when it is proved. The whole output is in the log.
 told = mkdir -p $(SAMPLE); set -o pipefail; $(2) 2>&1 | tee $(SAMPLE)/$(1) | sed -un 's/^rt: /  /p' || { cat $(SAMPLE)/$(1); exit 1; }
@@ -85,10 +85,25 @@ SEED = 1
 fuzz: library
 	cd rust && $(CARGO) run --release --offline --quiet -p snowpulley-differential --bin fuzz -- $(SECONDS) $(SEED)
 
-# The proved library beside the second program, and the two replay programs.
+# The proved library beside the second program, the two replay programs, and the stack that each call takes.
+BENCH = cd rust && $(CARGO) run --release --offline --quiet -p snowpulley-bench --
 bench: library target/bin/replay
-	cd rust && $(CARGO) run --release --offline --quiet -p snowpulley-bench
-	cd rust && $(CARGO) run --release --offline --quiet -p snowpulley-bench -- replay ../target/bin/replay
+	$(BENCH)
+	$(BENCH) replay
+	$(BENCH) stack
+
+# The same, written into docs/PERFORMANCE.md with its chart.
+performance: library target/bin/replay
+	$(BENCH) write
+
+# The lines of each crate and its wrong answers, as the rows of a table in docs/PERFORMANCE.md.
+count = $$(find crates/$$c/$(1) 2>/dev/null $(2) -exec cat {} + | wc -l)
+files = $$(find crates/$$c/$(1) -maxdepth 1 -name '*.edit' 2>/dev/null | wc -l)
+sizes:
+	@for c in $$(sed 's/:.*//' crates.txt); do \
+	    echo "| \`$$c\` | $(call count,src,-name '*.rt' ! -name entries.rt) | $(call count,specs,-name '*.antt') |" \
+	        "$(call count,proofs,-name '*.antt') | $(call files,must-fail) | $(call files,must-fail/quick) |"; \
+	done
 
 # Mutants of the code, and of the definitions that contracts cite: make mutants CRATE=store N=60 SEED=7 (no CRATE: every crate)
 CRATE =

@@ -1,6 +1,6 @@
 //! Single calls.
 
-use crate::inputs::{key, peers, store, value, HELD, NEW, OLD};
+use crate::inputs::{key, peers, store, value, HELD, NEW, OLD, SALT};
 use crate::measure::{by, medians, on_copies, steady, timer_cost, Subject, ROUNDS};
 use crate::table::{self, nanoseconds, Row};
 use reference::checksum::{crc32c_cpu, crc32c_table, crc32c_wide, Way};
@@ -14,21 +14,21 @@ use snowpulley::store::Found;
 use std::hint::black_box;
 
 const WAYS: [Way; 3] = [Way::Table, Way::Wide, Way::Cpu];
-const SALT: u32 = 0x5EED;
 
-pub fn run() {
-    println!("Medians of {ROUNDS} rounds in which the subjects take short turns.");
-    println!("A ratio is the proved library's time over the reference's.\n");
-    checksums();
+/// The times of all calls, as Markdown.
+pub fn tables() -> String {
     let mut rows = handler_rows();
     rows.extend(store_rows());
     rows.extend(ring_rows());
-    table::print("ns", &rows, |_, time| nanoseconds(time));
-    println!("Handler, offer and merge run on a fresh copy of the store each time. The copy is");
-    println!(
-        "outside the timed part; the timer itself adds about {} ns to each such call.",
+    let times = table::markdown("ns", &rows, |_, time| nanoseconds(time));
+    format!(
+        "Medians of {ROUNDS} rounds in which the subjects take short turns. A ratio is the proved\n\
+         library's time over the reference's.\n\n{}\n{times}\n\
+         Handler, offer and merge run on a fresh copy of the store each time. The copy is outside\n\
+         the timed part; the timer itself adds about {} ns to each such call.\n",
+        checksums(),
         nanoseconds(timer_cost())
-    );
+    )
 }
 
 /// The row of a call that both sides make; the reference's by each way.
@@ -43,13 +43,13 @@ fn row<'a>(name: String, proved: Subject<'a>, reference: impl Fn() -> Subject<'a
     }
 }
 
-fn checksums() {
+fn checksums() -> String {
     let bytes = value(59_616);
     let lengths = [592, 59_616];
     let rows = lengths.map(|length| checksum_row(&bytes[..length]));
-    table::print("GB/s", &rows, |index, time| {
+    table::markdown("GB/s", &rows, |index, time| {
         format!("{:.2}", lengths[index] as f64 / time)
-    });
+    })
 }
 
 fn checksum_row(bytes: &[u8]) -> Row {

@@ -6,6 +6,7 @@ use reference::store::{create, image_length, offer};
 use support::Rng;
 
 pub const SLOTS: usize = 100;
+pub const SALT: u32 = 0x5EED;
 
 /// The held entries' stamp, one below it and one above it.
 pub const OLD: Stamp = at(500);

@@ -5,6 +5,7 @@ use crate::measure::median;
 use reference::checksum::{choose, Way};
 use reference::frame::Message;
 use samples::script::{framed, put_message, record, repl_message, stamp};
+use std::fmt::Write as _;
 use std::fs::{self, File};
 use std::io::{self, Read, Write};
 use std::path::{Path, PathBuf};
@@ -98,14 +99,13 @@ fn time(program: &Program, input: &Path, output: &Path) -> io::Result<f64> {
 }
 
 /// Runs the proved program and the reference's in turns, compares their replies
-/// and prints the wall times.
-pub fn compare(proved: &Path, records: usize) -> Result<(), String> {
+/// and tells the wall times, as Markdown.
+pub fn table(proved: &Path, records: usize) -> Result<String, String> {
     if !proved.exists() {
-        println!(
+        return Err(format!(
             "The proved replay program is not at {}: not compared.",
             proved.display()
-        );
-        return Ok(());
+        ));
     }
     let dir = std::env::temp_dir().join(format!("snowpulley-bench-{}", std::process::id()));
     let result = fs::create_dir_all(&dir).and_then(|()| compare_in(&dir, proved, records));
@@ -114,7 +114,7 @@ pub fn compare(proved: &Path, records: usize) -> Result<(), String> {
     result.map_err(|error| error.to_string())
 }
 
-fn compare_in(dir: &Path, proved: &Path, records: usize) -> io::Result<()> {
+fn compare_in(dir: &Path, proved: &Path, records: usize) -> io::Result<String> {
     let (input, output) = (dir.join("journal"), dir.join("replies"));
     let journal = journal(records);
     fs::write(&input, &journal)?;
@@ -130,18 +130,20 @@ fn compare_in(dir: &Path, proved: &Path, records: usize) -> io::Result<()> {
             }
         }
     }
-    print(programs, records);
-    Ok(())
+    Ok(markdown(&programs, records))
 }
 
-fn print(programs: Vec<Program>, records: usize) {
-    println!("Replay of {records} records, medians of {ROUNDS} runs in turns; equal replies.\n");
-    println!("| program | wall time, s | ns a record | proved / this |");
-    println!("|---|---:|---:|---:|");
+fn markdown(programs: &[Program], records: usize) -> String {
+    let mut text = format!(
+        "A journal of {records} records; medians of {ROUNDS} runs in turns, with equal replies.\n\n\
+         | program | wall time, s | ns a record | proved / this |\n|---|---:|---:|---:|\n"
+    );
     let times: Vec<f64> = programs.iter().map(|p| median(p.seconds.clone())).collect();
     for (program, time) in programs.iter().zip(&times) {
         let each = time * 1e9 / records as f64;
         let ratio = times[0] / time;
-        println!("| {} | {time:.2} | {each:.0} | {ratio:.2} |", program.name);
+        let name = &program.name;
+        let _ = writeln!(text, "| {name} | {time:.2} | {each:.0} | {ratio:.2} |");
     }
+    text
 }
