@@ -1,8 +1,15 @@
 /* Snowpulley: a settings store in which every function is proved to meet its contract.
  *
- * Link with libcapi.a. Every function may be given any numbers and any bytes: it ends with an
- * answer or a numbered refusal, and a refusal changes nothing that was lent, except that
- * sp_handle writes an ERR frame for every refusal but SP_NO_ROOM and SP_BAD_ARGUMENT.
+ * Link with libcapi.a. It is for x86-64 Linux, the one target of the toolchain, and needs memcpy,
+ * memmove and memset. It has no heap and no data of its own that changes. A call takes up to
+ * 19 KiB of stack: a checksum makes its table of 16 KiB there, so every call that takes a checksum
+ * takes that much. The calls of the clock and of the peer table, sp_owners, sp_fmix32,
+ * sp_ring_is_sound and sp_store_create take less than 2 KiB. This is measured, not proved
+ * (docs/PERFORMANCE.md). A port to another processor rests on a back end of the toolchain for it.
+ *
+ * Every function may be given any numbers and any bytes: it ends with an answer or a numbered
+ * refusal, and a refusal changes nothing that was lent, except that sp_handle writes an ERR frame
+ * for every refusal but SP_NO_ROOM and SP_BAD_ARGUMENT.
  *
  * A pointer and the length after it are a slice: the pointer is not NULL, also where the length
  * is 0, and points to as many elements as the length says. A slice that is written does not

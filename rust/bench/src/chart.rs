@@ -102,7 +102,7 @@ pub fn chart(long: &str) -> Result<String, String> {
         }
         y += GAP - STEP;
     }
-    let height = y + 8.0;
+    let height = y - GAP + STEP + 8.0;
     Ok(format!(
         "<?xml version=\"1.0\" encoding=\"UTF-8\"?>\n\
          <svg xmlns=\"http://www.w3.org/2000/svg\" width=\"{WIDTH}\" height=\"{height}\" \

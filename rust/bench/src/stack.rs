@@ -274,6 +274,18 @@ mod tests {
         }
         let most = measured.iter().map(|(_, bytes)| *bytes).max();
         assert!(most > Some((MOST - 1) * 1024), "{most:?} bytes");
+        let said = format!("{MOST} KiB of stack");
+        let files = [
+            "README.md",
+            "docs/AUDIT.md",
+            "docs/PERFORMANCE.md",
+            "include/snowpulley.h",
+        ];
+        for file in files {
+            let text = text(file);
+            let words: Vec<&str> = text.split_whitespace().filter(|w| *w != "*").collect();
+            assert!(words.join(" ").contains(&said), "{file}: '{said}'");
+        }
     }
 
     #[test]

@@ -21,3 +21,8 @@ pub use entry::{Content, Entry, Stamp};
 pub use frame::Message;
 pub use peers::{PeerTable, Row, State};
 pub use refusal::Refusal;
+
+/// The README's Rust code runs as a test.
+#[cfg(doctest)]
+#[doc = include_str!("../../../README.md")]
+struct Readme;
