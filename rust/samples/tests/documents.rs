@@ -44,10 +44,16 @@ fn uses(list: &str) -> Uses {
     named.collect()
 }
 
+/// Whether a crate uses another one, maybe through others.
+fn reaches(uses: &Uses, from: &str, to: &str) -> bool {
+    let used = &uses[from];
+    used.contains(to) || used.iter().any(|next| reaches(uses, next, to))
+}
+
 /// The uses that do not follow from others.
 fn reduced(uses: &Uses) -> Uses {
     let lean = |used: &BTreeSet<String>| {
-        let implied = |name: &String| used.iter().any(|other| uses[other].contains(name));
+        let implied = |name: &&String| used.iter().any(|other| reaches(uses, other, name));
         used.iter().filter(|name| !implied(name)).cloned().collect()
     };
     let named = uses.iter().map(|(name, used)| (name.clone(), lean(used)));
