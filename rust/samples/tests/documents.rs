@@ -156,8 +156,8 @@ fn theorems_are_proved() {
 
 /// A name of AUDIT that is one word is declared in the crates or the header; these
 /// are words of the languages and tools.
-const OTHER: &str = "Bool Unit abbrev cc data declared e ensures ltb node points pub record \
-                     refusal replay requires sp_ unfoldable zero";
+const OTHER: &str = "Bool Unit abbrev cc data declared e ensures ltb memcpy memmove memset node \
+                     points pub record refusal replay requires sp_ unfoldable zero";
 
 #[test]
 fn names_are_declared() {
