@@ -47,7 +47,7 @@ fn public(code: &str) -> Vec<Public> {
         let signature = signature.join(" ");
         let name = signature.split_once("fn ").expect("a function").1;
         let name = name.split(['(', '<']).next().expect("a name").to_string();
-        let contract = contract.iter().map(|line| line.to_string()).collect();
+        let contract = contract.iter().map(ToString::to_string).collect();
         found.push(Public {
             name,
             signature,
