@@ -6,7 +6,7 @@ SAMPLE = target/sample
 LIBRARY = target/staticlib/libcapi.a
 # The Rust crates with tests that link the proved library.
 LINKED = -p snowpulley-sys -p snowpulley -p snowpulley-cli -p snowpulley-differential -p snowpulley-bench
-.PHONY: run replay test proved lint reference tools tool expected tails library differential compared fuzz bench performance sizes mutants wrong-answers fmt
+.PHONY: run replay test proved lint reference tools tool expected tails replayed library differential compared fuzz bench performance sizes mutants wrong-answers fmt
 
 # $(call told,LOG,COMMAND): runs rt, and tells each crate when it is proved. The whole output is in the log.
 told = mkdir -p $(SAMPLE); set -o pipefail; $(2) 2>&1 | tee $(SAMPLE)/$(1) | sed -un 's/^rt: /  /p' || { cat $(SAMPLE)/$(1); exit 1; }
@@ -25,7 +25,7 @@ replay: tool tools target/bin/replay
 test:
 	@$(MAKE) --no-print-directory proved
 	@$(MAKE) --no-print-directory -j2 reference library
-	@$(MAKE) --no-print-directory lint expected tails compared
+	@$(MAKE) --no-print-directory lint expected tails replayed compared
 	@rt fmt --check
 	@rt ci
 
@@ -65,6 +65,10 @@ tails: target/bin/replay
 	    cmp $(SAMPLE)/tail.expected $(SAMPLE)/tail.replies || exit 1; \
 	done
 	@echo "replay of $(TAILS): as expected"
+
+# The proved replay program as a process: journals of several buffers, input in pieces, a conversation, a closed output.
+replayed: target/bin/replay
+	cd rust && $(CARGO) test --release --offline --quiet -p snowpulley-replayed
 
 # The proved library for C and Rust, made again where something that it may depend on has changed.
 library: $(LIBRARY)
