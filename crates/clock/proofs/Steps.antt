@@ -8,7 +8,6 @@ use lib.Dec.{ltb, leb}
 use borrow.Author.Tests.{lt-ltb, le-ltb, le-leb, lt-leb}
 use Rattle.wire.proofs.Tests.{test}
 use Rattle.entry.specs.Entry.{badTime}
-use Rattle.entry.specs.Refusal as entry
 use Rattle.clock.specs.declared.Clock.{Clock}
 use Rattle.clock.specs.Clock.{Stepped, next, refused, raise, withSkew, sendStep, receiveInRange, receiveStep}
 
@@ -63,10 +62,10 @@ module _ (c : Clock) (p l now : ℕ) where
     unfolding receiveInRange
     not-ahead h = rw (le-ltb (now + 2000) p w, le-ltb (c .phys) p h)
 
--- ---- every refusal has its number
+-- ---- every refusal is 8 or 9
 abbrev pub Numbered : Stepped → Type 0
 Numbered (next d) = Unit {0}
-Numbered (refused n) = entry.Numbered n
+Numbered (refused n) = (8 ≤ n) × (n ≤ 9)
 
 raise-numbered : (c : Clock) (p l : ℕ) → Numbered (raise c p l)
 unfolding raise

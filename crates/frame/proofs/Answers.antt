@@ -7,7 +7,7 @@ use Prim.Native.Nat.{ℕ, _+_, _-_, _≤_, _<_}
 use native.Mathlib.Omega.{arith}
 use lib.ListN.{length, take, drop, getD}
 use lib.Dec.{eqb}
-use borrow.Author.Tests.{lt-ltb, le-ltb, eq-eqb, ne-eqb, eqb-true, eqb-false, not-true, not-false}
+use borrow.Author.Tests.{lt-ltb, le-ltb, eq-eqb, ne-eqb, eqb-true, eqb-false}
 use Rattle.wire.specs.Fill.{field}
 use Rattle.wire.proofs.Fill.{length-field}
 use Rattle.wire.proofs.Tests.{test}
@@ -16,12 +16,14 @@ use Rattle.entry.specs.declared.Refusal.the-variants.{BadKey, ValueTooLarge, Ba
 use Rattle.entry.specs.Key.{badKey}
 use Rattle.entry.specs.Order.{least}
 use Rattle.entry.specs.Entry.{entryOf, badFlag}
+use Rattle.entry.proofs.Accept.{opposite-true, opposite-false}
 use Rattle.frame.specs.declared.answer.Message.{Message as Located}
 use Rattle.frame.specs.declared.answer.Message.the-variants.{Put, Get, Del, Repl, Ok, Value, NotFound, Err}
 use Rattle.frame.specs.declared.answer.Read.{Read}
 use Rattle.frame.specs.declared.answer.Read.the-variants.{Message as Said, Refused}
 use Rattle.frame.specs.Message.{keyFault, tooLarge, valueFault, argumentFault}
-use Rattle.frame.specs.Reading.{messageIn, numberAt, envelopeHolds, typeIn, klen, vlen, stampIn, endsAt, keyEnds, valueEnds, judgedAs, checked, readBody, readAnswer}
+use Rattle.frame.specs.Reading.{messageIn, numberAt, envelopeHolds, typeIn, klen, vlen, stampIn, endsAt, keyEnds, valueEnds, judgedAs, checked, readBody}
+use Rattle.frame.specs.Reading.{readAnswer}
 use Rattle.frame.proofs.Fields.{number-byte}
 use Rattle.frame.proofs.Envelopes.{holding}
 
@@ -45,11 +47,11 @@ module _ (s : List ℕ) (usedUp : Bool) where
 module _ (k v : List ℕ) (m : Located) (r : Bool) (is : r ≡ not (badKey k)) where
   pub bad-key : not r ≡ true → Refused BadKey ≡ judgedAs (badKey k) (tooLarge v) m
   unfolding judgedAs
-  bad-key h = let b : badKey k ≡ true = not-false (badKey k) (sym is ∙ not-true r h) in rw b
+  bad-key h = rw (opposite-true r (badKey k) is h)
 
   module _ (h : not r ≡ false) where
     good-key : badKey k ≡ false
-    good-key = not-true (badKey k) (sym is ∙ not-false r h)
+    good-key = opposite-false r (badKey k) is h
 
     pub large-value : 512 < length v → Refused ValueTooLarge ≡ judgedAs (badKey k) (tooLarge v) m
     unfolding judgedAs

@@ -17,10 +17,11 @@ use Rattle.entry.specs.Key.{badKey}
 use Rattle.entry.specs.Order.{least}
 use Rattle.entry.specs.Entry.{Entry, entryOf, badFlag, refusalOf}
 use Rattle.entry.proofs.Accept.{key-short}
-use Rattle.frame.specs.Message.{Message, put, get, del, repl, ok, value, notFound, err, timeFault, keyFault, valueFault, argumentFault, messageRefusal, InRange}
+use Rattle.frame.specs.Message.{Message, put, get, del, repl, ok, value, notFound, err, timeFault, keyFault, valueFault, argumentFault, messageRefusal}
+use Rattle.frame.specs.Message.{InRange}
 use Rattle.frame.specs.Layout.{counted, stampBytes, typeOf, body}
 use Rattle.frame.specs.declared.answer.Message.{Message as Located}
-use Rattle.frame.specs.declared.answer.Message.the-variants.{Put, Get, Del, Repl, Ok, Value, NotFound, Err}
+use Rattle.frame.specs.declared.answer.Message.the-variants.{Repl}
 use Rattle.frame.specs.Reading.{message, messageIn, meaning, numberAt, klen, vlen, stampIn, endsAt, keyEnds, valueEnds, judgedAs, checked, readBody}
 use Rattle.frame.proofs.Fields.{field-between, number-between}
 use Rattle.frame.proofs.Envelopes.{Framed}
@@ -210,7 +211,8 @@ module _ (s : List ℕ) (e : Entry) (f : Framed s (body (repl e))) (t : Taken (r
   unfolding body argumentFault badFlag
   repl-flag =
       let l = ltb-false 1 (e .flag) (or-false (ltb 1 (e .flag)) (eqb (e .flag) 1 && ltb 0 (length (e .value))) (t .argument) .0) in
-      number-in s _ f (klen s + 5) 1 (e .flag) atFlag (stampBytes st ++ counted 2 (e .value)) (simp append-assoc) (omega (arith, length-counted 1 k, repl-klen)) (omega arith)
+      number-in s _ f (klen s + 5) 1 (e .flag) atFlag (stampBytes st ++ counted 2 (e .value)) (simp append-assoc) (omega (arith, length-counted 1 k, repl-klen))
+      (omega arith)
 
   length-at-stamp : length atStamp + 4 ≡ klen s + 6
   length-at-stamp = omega (arith, length-append (counted 1 k) (be 1 (e .flag)), length-counted 1 k, length-be 1 (e .flag), repl-klen)

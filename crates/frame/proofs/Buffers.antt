@@ -82,7 +82,8 @@ module _ (t n : ℕ) (s₀ s : List ℕ) (room : n + 8 ≤ length s₀) (w : Wri
       let e : n + 4 - 2 ≡ n + 2 = omega arith in
       let k = length-field 4 n s₀ (omega arith) in
       ap (λ (i : ℕ). crc32c (take i (drop 2 s))) e
-      ∙ ap crc32c (field-between 2 (n + 2) s (be 2 (n + 6)) (t ∷ 0 ∷ placed) (drop (4 + n) s₀) (body-stays .is ∙ simp append-assoc) (length-be 2 (n + 6)) (omega arith))
+      ∙ ap crc32c (field-between 2 (n + 2) s (be 2 (n + 6)) (t ∷ 0 ∷ placed) (drop (4 + n) s₀) (body-stays .is ∙ simp append-assoc) (length-be 2 (n + 6))
+      (omega arith))
 
   pub frame-sealed : (sum : ℕ) (ys : List ℕ) → sum ≡ crc32c (take (n + 4 - 2) (drop 2 s)) → ys ≡ be (length (midOf (n + 4) (n + 8 - (n + 4)) s)) sum
       → Sealed t n s₀ (Bytes (n + 8)) (putMid (n + 4) (n + 8 - (n + 4)) s ys)
@@ -133,4 +134,5 @@ sealed-written n t k b out s after r z h room w sealed =
 pub body-written : (f : ℕ → List ℕ) (n t k : ℕ) (out ys after : List ℕ) (r : Wrote) → n ≡ 0 → length (f k) ≡ k → k + 8 ≤ length out
     → ys ≡ f (length (midOf 4 (k + 4 - 4) out)) → Sealed t k (putMid 4 (k + 4 - 4) out ys) r after → WritesFrame n (envelope t (f k)) out r after
 body-written f n t k out ys after r z h room ye sealed =
-    sealed-written n t k (f k) out _ after r z h room (write-part f 4 k (k + 4) (take 4 out) out out ys (omega arith) (omega arith) h (write-front out (omega arith)) ye) sealed
+    sealed-written n t k (f k) out _ after r z h room (write-part f 4 k (k + 4) (take 4 out) out out ys (omega arith) (omega arith) h
+    (write-front out (omega arith)) ye) sealed

@@ -1,14 +1,14 @@
 -- The reader's tests: what each shows of the frame or of the body.
-use mathlib.Core.Path.{_≡_, refl, sym, ap, _∙_}
+use mathlib.Core.Path.{_≡_, sym, ap, _∙_}
 use mathlib.Core.Logic.{inl, inr}
 use mathlib.Core.Bool.{true, false, not}
-use mathlib.Core.List.{List, [], _∷_}
-use Prim.Native.Nat.{ℕ, suc, _+_, _-_, _^_, _≤_, _<_}
+use mathlib.Core.List.{List, []}
+use Prim.Native.Nat.{ℕ, _+_, _-_, _^_, _≤_, _<_}
 use native.Mathlib.Omega.{arith}
 use lib.ListN.{length, take, drop, length-take}
 use lib.Dec.{ltb, eqb}
 use borrow.Author.Tests.{lt-ltb, le-ltb, le-leb, eq-eqb, ne-eqb, ltb-true, ltb-false, eqb-true, eqb-false}
-use Rattle.wire.specs.Number.{be, num, numFrom, Bytes}
+use Rattle.wire.specs.Number.{be, num, Bytes}
 use Rattle.wire.specs.Fill.{field}
 use Rattle.wire.proofs.Number.{num-be, num-whole}
 use Rattle.wire.proofs.Order.{sameBytes-refl}

@@ -1,11 +1,11 @@
 -- What was written reads back, and what was read, written again, is the same bytes.
 use mathlib.Core.Path.{_≡_, refl, sym, ap, ap₂, _∙_}
 use mathlib.Core.Logic.{_⊎_, inl, inr}
-use mathlib.Core.Bool.{Bool, true, false}
+use mathlib.Core.Bool.{Bool, true, false, not}
 use mathlib.Core.List.{List, [], _++_}
 use Prim.Native.Nat.{ℕ, _+_, _-_, _^_, _≤_}
 use native.Mathlib.Omega.{arith}
-use lib.ListN.{length, take, drop}
+use lib.ListN.{length, drop}
 use lib.Seq.{take-at}
 use lib.Dec.{ltb, eqb}
 use borrow.Author.Tests.{le-ltb, lt-leb, ltb-false, eqb-true}
@@ -14,6 +14,7 @@ use Rattle.wire.specs.Fill.{field}
 use Rattle.wire.proofs.Fill.{length-field}
 use Rattle.wire.proofs.Tests.{test}
 use Rattle.entry.specs.declared.Refusal.{Refusal}
+use Rattle.entry.specs.Refusal.{number}
 use Rattle.entry.specs.declared.Refusal.the-variants.{BadKey, ValueTooLarge, BadFrame}
 use Rattle.frame.specs.declared.answer.Message.{Message as Located}
 use Rattle.frame.specs.declared.answer.Message.the-variants.{Get, Del, Ok, Value, NotFound, Err}
@@ -23,13 +24,15 @@ use Rattle.frame.specs.declared.answer.Wrote.{Wrote}
 use Rattle.frame.specs.declared.answer.Wrote.the-variants.{Bytes as BytesWrote, Refused as RefusedWrote}
 use Rattle.frame.specs.Message.{Message, timeFault, keyFault, valueFault, argumentFault, messageRefusal, InRange}
 use Rattle.frame.specs.Layout.{counted, stampBytes, typeOf, body, envelope, frameOf}
-use Rattle.frame.specs.Reading.{message, messageIn, meaning, numberAt, envelopeHolds, typeIn, klen, vlen, stampIn, endsAt, keyEnds, valueEnds, judgedAs, checked, readBody, readAnswer, readFrame}
+use Rattle.frame.specs.Reading.{message, refused, messageIn, meaning, numberAt, envelopeHolds, typeIn, klen, vlen, stampIn, endsAt, keyEnds, valueEnds}
+use Rattle.frame.specs.Reading.{judgedAs, checked, readBody, readAnswer, readFrame}
 use Rattle.frame.specs.Writing.{bytes, answerOf, writeRefusal, writeAnswer, afterWrite, Writes}
-use Rattle.frame.specs.Meaning.{Within, ReadLiesWithin, ReadHasType, WrittenReadsBack, ReadWritesBack, ReadIsTaken, FrameAtMost600, WrittenWhole, FrontReadsBack}
+use Rattle.frame.specs.Meaning.{Within, ReadLiesWithin, ReadHasType, ReadRefusals, WrittenReadsBack, ReadWritesBack, ReadIsTaken, FrameAtMost600}
+use Rattle.frame.specs.Meaning.{WrittenWhole, FrontReadsBack}
 use Rattle.frame.proofs.Fields.{field-join, number-lt, be-number}
 use Rattle.frame.proofs.Envelopes.{length-envelope, framed, envelope-reads, envelope-writes}
 use Rattle.frame.proofs.Bodies.{taken, body-short, body-reads}
-use Rattle.frame.proofs.ByType.{putIn, replIn, by-type}
+use Rattle.frame.proofs.ByType.{either, putIn, replIn, by-type}
 use Rattle.frame.proofs.Answers.{ends-length}
 
 -- ---- what was written
@@ -142,6 +145,43 @@ read-lies-within s m h = elim (test (envelopeHolds s)) [
   | inr p ↦ not-said s m BadFrame (rw p at h)
 ]
 
+-- ---- a refusal
+abbrev IsFew : Read → Type 0
+IsFew (Said m) = Unit {0}
+IsFew (Refused r) = (1 ≤ number r) × (number r ≤ 3)
+
+few-checked : (s : List ℕ) (w : Bool) (l : Located) → IsFew (checked s w l)
+unfolding checked judgedAs
+few-checked s w l =
+    either IsFew (not w) _ _ (omega arith)
+    (either IsFew (argumentFault (messageIn s l)) _ _ (omega arith)
+    (either IsFew (keyFault (messageIn s l)) _ _ (omega arith)
+    (either IsFew (valueFault (messageIn s l)) _ _ (omega arith) tt)))
+
+few-read : (s : List ℕ) → IsFew (readAnswer s)
+unfolding readAnswer
+few-read s = either IsFew (envelopeHolds s) _ _
+    (by-type IsFew s (typeIn s) (record {
+      put = λ e. few-checked s _ _;
+      get = λ e. few-checked s _ _;
+      del = λ e. few-checked s _ _;
+      repl = λ e. few-checked s _ _;
+      ok = λ e. few-checked s _ _;
+      value = λ e. few-checked s _ _;
+      not-found = λ e. few-checked s _ _;
+      err = λ e. few-checked s _ _;
+      unknown = omega arith;
+    }))
+    (omega arith)
+
+few-of : (s : List ℕ) (r : Read) (n : ℕ) → IsFew r → meaning s r ≡ refused n → (1 ≤ n) × (n ≤ 3)
+few-of s (Said m) n f h = let z : _≡_ {A = ℕ} 0 1 = cc in absurd (omega arith)
+few-of s (Refused r) n f h = let e : number r ≡ n = cc in rw (← e) f
+
+pub read-refusals : ReadRefusals
+unfolding readFrame
+read-refusals s n h = few-of s (readAnswer s) n (few-read s) h
+
 -- ---- and written again
 -- the body of a message that was read is that of the frame, and a writer takes it
 pub record Again (s : List ℕ) (m : Message) : Type 0 where
@@ -200,7 +240,8 @@ module _ (s : List ℕ) (bs : Bytes s) where
       let n = ends-length (klen s + 15) (klen s + 17) s (omega arith) h in
       ap₂ (λ (x y : List ℕ). x ++ y ++ stampBytes (stampIn (klen s + 6) s) ++ v) (key-again (omega arith)) (be-number s bs (klen s + 5) 1 (omega arith))
       ∙ ap₂ (λ (x y : List ℕ). x ++ y ++ v) (field-join 4 (1 + klen s) (klen s + 5) 1 s (omega arith)) (stamp-again (klen s + 6) (omega arith))
-      ∙ ap₂ (λ (x y : List ℕ). x ++ y) (field-join 4 (1 + klen s + 1) (klen s + 6) 9 s (omega arith)) (value-again (klen s + 15) (klen s + 17) (omega arith) (omega arith))
+      ∙ ap₂ (λ (x y : List ℕ). x ++ y) (field-join 4 (1 + klen s + 1) (klen s + 6) 9 s (omega arith))
+      (value-again (klen s + 15) (klen s + 17) (omega arith) (omega arith))
       ∙ field-join 4 (1 + klen s + 1 + 9) (klen s + 15) (2 + vlen (klen s + 15) s) s (omega arith) ∙ whole _ (omega arith)
 
   value-alone-again : valueEnds 4 s ≡ true → counted 2 (field 6 (vlen 4 s) s) ≡ field 4 (length s - 8) s
@@ -270,7 +311,8 @@ written-whole m out r after h l w =
     (is-bytes r _ (w .answer ∙ rw (h, n)), w .buffer ∙ rw (h, n))
 
 -- an answer that counts bytes is that of a message that is taken, in a buffer with room
-counted-bytes : (m : Message) (out : List ℕ) (n : ℕ) (after : List ℕ) → Writes m out (BytesWrote n) after → (messageRefusal m ≡ 0) × (length (frameOf m) ≤ length out)
+counted-bytes : (m : Message) (out : List ℕ) (n : ℕ) (after : List ℕ) → Writes m out (BytesWrote n) after
+    → (messageRefusal m ≡ 0) × (length (frameOf m) ≤ length out)
 unfolding writeAnswer writeRefusal
 counted-bytes m out n after w =
     let a = w .answer in

@@ -11,7 +11,7 @@ use Rattle.frame.specs.declared.answer.Wrote.{Wrote}
 use Rattle.frame.specs.declared.answer.Wrote.the-variants.{Bytes as BytesWrote}
 use Rattle.frame.specs.Message.{Message, messageRefusal, InRange}
 use Rattle.frame.specs.Layout.{typeOf, frameOf}
-use Rattle.frame.specs.Reading.{message, typeIn, readAnswer, readFrame}
+use Rattle.frame.specs.Reading.{message, refused, typeIn, readAnswer, readFrame}
 use Rattle.frame.specs.Writing.{Writes}
 
 -- ---- reading
@@ -33,6 +33,10 @@ ReadLiesWithin = (s : List ℕ) (m : Located) → readAnswer s ≡ Said m → Wi
 -- a frame reads as a message of its TYPE
 abbrev pub ReadHasType : Type 0
 ReadHasType = (s : List ℕ) (m : Message) → readFrame s ≡ message m → typeOf m ≡ typeIn s
+
+-- a frame that is no message is refused with 1, 2 or 3
+abbrev pub ReadRefusals : Type 0
+ReadRefusals = (s : List ℕ) (n : ℕ) → readFrame s ≡ refused n → (1 ≤ n) × (n ≤ 3)
 
 -- what was written reads back as the same message, for every message that a writer takes
 abbrev pub WrittenReadsBack : Type 0

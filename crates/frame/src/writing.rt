@@ -79,7 +79,8 @@ pub(crate) fn seal(out: &mut [u8], kind: u8, n: usize) -> Wrote
 
 // GET and DEL.
 pub(crate) fn write_keyed(key: &[u8], out: &mut [u8], kind: u8) -> Wrote
-    ensures { λ r. ⌜ WritesFrame (refusalOf (entryOf (now (key .entry)) [] 0 least)) (envelope kind (keyBytes (now (key .entry)))) (now (out .entry)) r (now (out .exit)) ⌝ }
+    ensures { λ r. ⌜ WritesFrame (refusalOf (entryOf (now (key .entry)) [] 0 least))
+        (envelope kind (keyBytes (now (key .entry)))) (now (out .entry)) r (now (out .exit)) ⌝ }
 {
     let judged = judge(key, b"", ACTIVE, Stamp::LEAST);
     if let Acceptance::Refused(why) = judged {

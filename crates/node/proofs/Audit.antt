@@ -1,6 +1,6 @@
 -- What a refusal and a served request leave.
 use Prim.Native.Nat.{ℕ, _^_, _<_}
-use mathlib.Core.Path.{_≡_, refl, sym, ap, _∙_}
+use mathlib.Core.Path.{_≡_, refl, ap, _∙_}
 use mathlib.Core.Logic.{inl, inr}
 use mathlib.Core.Bool.{true, false}
 use mathlib.Core.List.{List, []}
@@ -9,7 +9,7 @@ use lib.ListN.{length}
 use lib.Dec.{ltb}
 use borrow.Author.Tests.{not-false}
 use Rattle.wire.specs.Order.{sameBytes}
-use Rattle.wire.proofs.Tests.{test, clash}
+use Rattle.wire.proofs.Tests.{test}
 use Rattle.wire.proofs.Order.{sameBytes-refl}
 use Rattle.entry.specs.declared.Stamp.{Stamp}
 use Rattle.entry.specs.Key.{badKey}
@@ -20,11 +20,10 @@ use Rattle.entry.proofs.Accept.{accepted}
 use Rattle.clock.specs.declared.Clock.{Clock}
 use Rattle.clock.specs.Clock.{stampOf}
 use Rattle.clock.proofs.Rising.{send-rises}
-use Rattle.frame.specs.Message.{Message, InRange}
 use Rattle.image.specs.Image.{entriesOf, sound}
 use Rattle.store.specs.Held.{_∈_, put, find}
 use Rattle.store.specs.Answer as answer
-use Rattle.store.specs.Offer.{told, offerAnswer, afterOffer}
+use Rattle.store.specs.Offer.{told}
 use Rattle.store.specs.Overtaken.{overtakenBy, overtaken}
 use Rattle.store.specs.Lookup.{findingFor, valueFor, lookupAnswer, valuePart}
 use Rattle.store.specs.Meaning.{Representable, Keeps}
@@ -36,7 +35,8 @@ use Rattle.node.specs.Meaning.{RefusalChangesNothing, StaleReplicaChange
 use Rattle.node.proofs.Deeds.{Took, Wrote, write-done, replica-done, send-fits, deed}
 
 -- ---- a refusal
-settled-refusal : (s : List ℕ) (c : Clock) (reply : List ℕ) (x : Served) → (settle s c reply x .refusal ≡ 0 → ⊥) → (settle s c reply x .store ≡ s) × (settle s c reply x .clock ≡ c)
+settled-refusal : (s : List ℕ) (c : Clock) (reply : List ℕ) (x : Served) → (settle s c reply x .refusal ≡ 0 → ⊥)
+    → (settle s c reply x .store ≡ s) × (settle s c reply x .clock ≡ c)
 unfolding settle
 settled-refusal s c reply (done s′ c′ m) h = absurd (h refl)
 settled-refusal s c reply (refused n) h = (refl, refl)

@@ -1,24 +1,35 @@
 -- What a whole call did.
-use Prim.Native.Nat.{ℕ, _<_}
+use Prim.Native.Nat.{ℕ, _^_, _<_}
 use native.Mathlib.Omega.{arith}
-use mathlib.Core.Path.{_≡_, refl}
+use mathlib.Core.Path.{_≡_, refl, sym, ap, _∙_}
 use mathlib.Core.Logic.{_⊎_, inl, inr}
-use mathlib.Core.Bool.{true, _||_}
+use mathlib.Core.Bool.{true, false, _||_}
 use mathlib.Core.List.{List}
 use lib.ListN.{length}
 use lib.Dec.{ltb, leb, eqb}
-use borrow.Author.Tests.{eqb-true, eqb-false}
+use borrow.Author.Tests.{eqb-true, eqb-false, le-ltb, lt-leb}
 use Rattle.wire.proofs.Tests.{test}
 use Rattle.entry.specs.Entry.{badTime}
 use Rattle.clock.specs.declared.Clock.{Clock}
 use Rattle.frame.specs.Message.{Message}
+use Rattle.frame.specs.Layout.{typeOf}
 use Rattle.frame.specs.Reading.{Outcome, typeIn, readFrame}
 use Rattle.frame.specs.Reading as reading
+use Rattle.frame.proofs.RoundTrips.{read-has-type}
 use Rattle.image.specs.Image.{sound}
 use Rattle.node.specs.Handler.{Served, done, refused, serve, serveOutcome, serveFrame, Result, settle, handled}
+use Rattle.node.specs.Meaning.{Asks}
 use Rattle.node.proofs.Deeds.{no-done, Offers, deed}
 use Rattle.node.proofs.Audit.{refusal-changes-nothing}
 use Rattle.node.proofs.Telling.{Tellable, frame-tellable}
+
+-- ---- a call that passes the checks serves its message
+pub asked : (s : List ℕ) (c : Clock) (now : ℕ) (frame reply : List ℕ) (m : Message) → Asks s c now frame reply m → leb 16 (typeOf m) ≡ false
+    → handled s c now frame reply ≡ settle s c reply (serve s c now m)
+unfolding handled serveFrame serveOutcome
+asked s c now frame reply m a q =
+    let t : leb 16 (typeIn frame) ≡ false = ap (leb 16) (sym (read-has-type frame m (a .reads))) ∙ q in
+    rw (le-ltb (length reply) 600 (a .room), a .is-sound, lt-leb (2 ^ 48) now (a .time), lt-leb (2 ^ 48) (c .phys) (a .phys), t, a .reads)
 
 -- ---- a call that is not refused
 pub record Done (s : List ℕ) (c : Clock) (reply : List ℕ) (x : Served) : Type 0 where

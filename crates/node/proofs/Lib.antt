@@ -7,3 +7,4 @@ pub mod Deeds
 pub mod Audit
 pub mod Calls
 pub mod WholeCalls
+pub mod Exactly

@@ -80,7 +80,8 @@ module _ (s : List ℕ) (c n : Clock) where
 
 -- ---- the store's answer to a GET
 module _ (s : List ℕ) (h : sound s ≡ true) (key : List ℕ) where
-  pub looked-as : (c : Clock) (l k : Looked) → findingOf l ≡ lookupUnchecked s key → l ≡ k → gets s c (valuePart s key) (findingOf k) ≡ gets s c (valuePart s key) (lookupAnswer s key)
+  pub looked-as : (c : Clock) (l k : Looked) → findingOf l ≡ lookupUnchecked s key → l ≡ k
+      → gets s c (valuePart s key) (findingOf k) ≡ gets s c (valuePart s key) (lookupAnswer s key)
   looked-as c l k told e = ap (gets s c (valuePart s key)) (sym (ap findingOf e) ∙ told ∙ unchecked-on-sound s h .lookup key)
 
   -- the place that was given lies in the store, and the value stands there

@@ -36,7 +36,8 @@ use Rattle.store.specs.Offer.{told, offerAnswer, afterOffer}
 use Rattle.store.specs.Overtaken.{overtaken}
 use Rattle.store.specs.Lookup.{Finding, findingFor, lookupAnswer, valuePart}
 use Rattle.store.specs.Lookup as lookup
-use Rattle.node.specs.Handler.{Served, done, refused, offerServed, offered, writeLocally, takeReplica, gets, serve, serveOutcome, serveFrame, over, settle, handled}
+use Rattle.node.specs.Handler.{Served, done, refused, offerServed, offered, writeLocally, takeReplica, gets, serve, serveOutcome, serveFrame, over}
+use Rattle.node.specs.Handler.{settle, handled}
 use Rattle.node.specs.Meaning.{ReadsBack, ReplyReadsBack, ReplyAtMost600}
 use Rattle.node.proofs.Replying.{ok-taken, not-found-taken}
 use Rattle.node.proofs.Serving.{value-fits}
@@ -77,18 +78,18 @@ offer-numbered s e = either AnswerNumbered (not (sound s)) _ _ (omega arith) (el
       rw p n
 ])
 
-abbrev FindingNumbered : Finding → Type 0
+abbrev pub FindingNumbered : Finding → Type 0
 FindingNumbered (lookup.value at len) = Unit {0}
 FindingNumbered lookup.deleted = Unit {0}
 FindingNumbered lookup.never = Unit {0}
-FindingNumbered (lookup.refused n) = Numbered n
+FindingNumbered (lookup.refused n) = (0 < n) × (n ≤ 5)
 
 finding-numbered : (i : ℕ) (o : Option Entry) → FindingNumbered (findingFor i o)
 unfolding findingFor
 finding-numbered i none = tt
 finding-numbered i (some h) = either FindingNumbered (eqb (h .flag) 1) _ _ tt tt
 
-lookup-numbered : (s k : List ℕ) → FindingNumbered (lookupAnswer s k)
+pub lookup-numbered : (s k : List ℕ) → FindingNumbered (lookupAnswer s k)
 unfolding lookupAnswer
 lookup-numbered s k = either FindingNumbered (not (sound s)) _ _ (omega arith)
     (either FindingNumbered (badKey k) _ _ (omega arith) (finding-numbered (indexOf k (entriesOf s)) (find k (entriesOf s))))
@@ -128,19 +129,19 @@ module _ (s : List ℕ) where
   write-tellable : (k v : List ℕ) (f : ℕ) (t : Stepped) → StepNumbered t → Tellable (writeLocally s k v f t)
   unfolding writeLocally
   write-tellable k v f (clock.next c) n = either Tellable (overtaken s k (stampOf c)) _ _ (omega arith) (offered-tellable c (entryOf k v f (stampOf c)))
-  write-tellable k v f (clock.refused j) n = n
+  write-tellable k v f (clock.refused j) n = omega arith
 
   replica-tellable : (e : Entry) (t : Stepped) → StepNumbered t → Tellable (takeReplica s e t)
   unfolding takeReplica
   replica-tellable e (clock.next c) n = offered-tellable c e
-  replica-tellable e (clock.refused j) n = n
+  replica-tellable e (clock.refused j) n = omega arith
 
   gets-tellable : (c : Clock) (v : List ℕ) (x : Finding) → length v ≤ 512 → FindingNumbered x → Tellable (gets s c v x)
   unfolding gets
   gets-tellable c v (lookup.value at len) l n = (value-taken v l, tt)
   gets-tellable c v lookup.deleted l n = (not-found-taken, tt)
   gets-tellable c v lookup.never l n = (not-found-taken, tt)
-  gets-tellable c v (lookup.refused j) l n = n
+  gets-tellable c v (lookup.refused j) l n = omega arith
 
   module _ (h : sound s ≡ true) (c : Clock) (now : ℕ) where
     serve-tellable : (m : Message) → Tellable (serve s c now m)
@@ -174,19 +175,22 @@ module _ (s : List ℕ) where
 err-numbered : (n : ℕ) → Numbered n → messageRefusal (message.err n) ≡ 0
 err-numbered n h = let e : n ≡ 0 → ⊥ = omega (arith, h .0) in err-taken n e (omega (arith, h .1))
 
-written-reads : (m : Message) (reply : List ℕ) → messageRefusal m ≡ 0 → InRange m → readFrame (take (length (frameOf m)) (over (frameOf m) reply)) ≡ reading.message m
+written-reads : (m : Message) (reply : List ℕ) → messageRefusal m ≡ 0 → InRange m
+    → readFrame (take (length (frameOf m)) (over (frameOf m) reply)) ≡ reading.message m
 unfolding over
 written-reads m reply t i = ap readFrame (take-at (frameOf m) (drop (length (frameOf m)) reply) (length (frameOf m)) refl) ∙ written-reads-back m t i
 
 settled-reads : (s : List ℕ) (c : Clock) (reply : List ℕ) (x : Served) → Tellable x → ReadsBack (settle s c reply x)
 unfolding settle
-settled-reads s c reply (done s′ c′ m) t = record { says = m; reads = written-reads m reply (t .0) (t .1); numbered = omega arith; tells = λ h. absurd (h refl) }
+settled-reads s c reply (done s′ c′ m) t =
+    record { says = m; reads = written-reads m reply (t .0) (t .1); numbered = omega arith; tells = λ h. absurd (h refl) }
 settled-reads s c reply (refused n) t =
     record { says = message.err n; reads = written-reads (message.err n) reply (err-numbered n t) tt; numbered = t .1; tells = λ h. refl }
 
 pub reply-reads-back : ReplyReadsBack
 unfolding handled
-reply-reads-back s c now frame reply room = rw (le-ltb (length reply) 600 room) (settled-reads s c reply (serveFrame s c now frame) (frame-tellable s c now frame))
+reply-reads-back s c now frame reply room =
+    rw (le-ltb (length reply) 600 room) (settled-reads s c reply (serveFrame s c now frame) (frame-tellable s c now frame))
 
 settled-short : (s : List ℕ) (c : Clock) (reply : List ℕ) (x : Served) → Tellable x → settle s c reply x .written ≤ 600
 unfolding settle

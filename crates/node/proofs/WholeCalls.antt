@@ -1,14 +1,14 @@
 -- What holds of whole calls.
-use Prim.Native.Nat.{ℕ, _^_, _≤_, _<_}
+use Prim.Native.Nat.{ℕ, _^_, _<_}
 use native.Mathlib.Omega.{arith}
-use mathlib.Core.Path.{_≡_, refl, sym, ap, _∙_}
+use mathlib.Core.Path.{_≡_, refl, ap, _∙_}
 use mathlib.Core.Logic.{inl, inr}
 use mathlib.Core.Bool.{true, false, not, _||_}
 use mathlib.Core.List.{List}
 use mathlib.Core.Option.{Option, none, some}
 use lib.ListN.{length}
 use lib.Dec.{ltb, leb, eqb}
-use borrow.Author.Tests.{eqb-true, eqb-false, lt-leb, le-ltb}
+use borrow.Author.Tests.{eqb-true, eqb-false}
 use Rattle.wire.specs.Number.{Bytes}
 use Rattle.wire.specs.Order.{sameBytes}
 use Rattle.wire.proofs.Tests.{test, false-of}
@@ -23,7 +23,7 @@ use Rattle.frame.specs.Message as message
 use Rattle.frame.specs.Layout.{typeOf}
 use Rattle.frame.specs.Reading.{Outcome, typeIn, readFrame}
 use Rattle.frame.specs.Reading as reading
-use Rattle.frame.proofs.RoundTrips.{read-is-taken, read-has-type}
+use Rattle.frame.proofs.RoundTrips.{read-is-taken}
 use Rattle.frame.proofs.ByType.{either}
 use Rattle.image.specs.Image.{entriesOf, sound}
 use Rattle.store.specs.Held.{put, find}
@@ -38,7 +38,7 @@ use Rattle.node.specs.Meaning.{GetFrameChangesNothing, GetsAfter, GetFra
 use Rattle.node.proofs.Deeds.{Stays, gets-stays, Offers, replica-done}
 use Rattle.node.proofs.Audit.{unchanged-safe, kept-safe, took-keeps, refusal-changes-nothing, stale-replica-changes-nothing}
 use Rattle.node.proofs.Audit.{get-after-put, get-after-del, never-loses-or-lowers}
-use Rattle.node.proofs.Calls.{Wrote, served-call, call-deed}
+use Rattle.node.proofs.Calls.{Wrote, asked, served-call, call-deed}
 
 same-message : {o : Outcome} {m n : Message} → o ≡ reading.message m → o ≡ reading.message n → m ≡ n
 same-message p q = cc
@@ -86,7 +86,9 @@ other-keys-untouched s c now frame reply k bytes n other = elim (call-deed s c n
 pub clock-never-lowered : ClockNeverLowered
 clock-never-lowered s c now frame reply = elim (call-deed s c now frame reply) [
   | inl q ↦ rw (q .1) (record { stamp = stampBelow-irrefl (stampOf c); skew = omega arith; node = refl })
-  | inr w ↦ let r = w .offers .rises in record { stamp = stampBelow-asym (stampOf c) (stampOf (handled s c now frame reply .clock)) (r .above); skew = r .skew; node = r .node }
+  | inr w ↦
+      let r = w .offers .rises in
+      record { stamp = stampBelow-asym (stampOf c) (stampOf (handled s c now frame reply .clock)) (r .above); skew = r .skew; node = r .node }
 ]
 
 pub found-or-offered : FoundOrOffered
@@ -133,15 +135,6 @@ get-frame-changes-nothing s c now frame reply k e = elim (test (ltb (length repl
 ]
 
 -- ---- a GET frame after an accepted frame
-module _ (s : List ℕ) (c : Clock) (now : ℕ) (frame reply : List ℕ) (m : Message) where
-  answered : (s′ : List ℕ) (d : Clock) (m′ : Message) → sound s ≡ true → now < 2 ^ 48 → c .phys < 2 ^ 48 → 600 ≤ length reply
-      → leb 16 (typeOf m) ≡ false → readFrame frame ≡ reading.message m → serve s c now m ≡ done s′ d m′
-      → handled s c now frame reply ≡ settle s c reply (done s′ d m′)
-  unfolding handled serveFrame serveOutcome
-  answered s′ d m′ h a b room q e r =
-      let t : leb 16 (typeIn frame) ≡ false = ap (leb 16) (sym (read-has-type frame m e)) ∙ q in
-      rw (le-ltb (length reply) 600 room, h, lt-leb (2 ^ 48) now a, lt-leb (2 ^ 48) (c .phys) b, t, e, r)
-
 gets-after : (m : Message) (k : List ℕ) (m′ : Message) → InRange m
     → ((s s′ : List ℕ) (c d c′ : Clock) (now now′ : ℕ) (x : Message) → sound s ≡ true → c .node < 2 ^ 8 → serve s c now m ≡ done s′ d x
     → serve s′ c′ now′ (message.get k) ≡ done s′ c′ m′)
@@ -152,7 +145,8 @@ gets-after m k m′ i law s c c′ now now′ frame frame′ reply reply′ n e 
     let p = accepted-call-serves s c now frame reply m z e in
     let q = p .1 in
     let w = never-loses-or-lowers s t c (q .next) now m (q .says) (p .0) n i (q .is) in
-    answered t c′ now′ frame′ reply′ (message.get k) t c′ m′ (w .0) a b room refl g (law s t c (q .next) c′ now now′ (q .says) (p .0) n (q .is))
+    asked t c′ now′ frame′ reply′ (message.get k) (record { room = room; is-sound = w .0; time = a; phys = b; reads = g }) refl
+    ∙ ap (settle t c′ reply′) (law s t c (q .next) c′ now now′ (q .says) (p .0) n (q .is))
 
 pub get-frame-after-put-frame : GetFrameAfterPutFrame
 get-frame-after-put-frame k v =

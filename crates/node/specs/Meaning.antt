@@ -1,20 +1,20 @@
 -- What an auditor would ask of the handler.
 use Prim.Native.Nat.{ℕ, _^_, _≤_, _<_}
 use mathlib.Core.Path.{_≡_}
-use mathlib.Core.Logic.{_⊎_}
+use mathlib.Core.Logic.{_⊎_, _↔_}
 use mathlib.Core.Bool.{true, false, cond}
-use mathlib.Core.List.{List}
+use mathlib.Core.List.{List, []}
 use mathlib.Core.Option.{Option, none, some}
 use lib.ListN.{length, take}
 use Rattle.wire.specs.Number.{Bytes}
 use Rattle.entry.specs.Order.{stampBelow}
-use Rattle.entry.specs.Entry.{Entry}
+use Rattle.entry.specs.Entry.{Entry, entryOf}
 use Rattle.clock.specs.declared.Clock.{Clock}
-use Rattle.clock.specs.Clock.{stampOf}
+use Rattle.clock.specs.Clock.{next, stampOf, sendStep, receiveStep}
 use Rattle.frame.specs.Message.{Message, put, get, del, repl, value, notFound, err, keyOf, InRange}
 use Rattle.frame.specs.Reading.{message, readFrame}
-use Rattle.image.specs.Image.{sound, entriesOf}
-use Rattle.store.specs.Held.{_∈_, find}
+use Rattle.image.specs.Image.{slotsOf, entriesOf, sound}
+use Rattle.store.specs.Held.{_∈_, put as putEntry, find}
 use Rattle.store.specs.Offer.{afterOffer}
 use Rattle.store.specs.Meaning.{Representable}
 use Rattle.node.specs.Handler.{Result, done, serve, settle, handled}
@@ -143,3 +143,49 @@ pub record AfterOffer (s t : List ℕ) : Type 0 where
 abbrev pub FoundOrOffered : Type 0
 FoundOrOffered = (s : List ℕ) (c : Clock) (now : ℕ) (frame reply : List ℕ) → Bytes frame → c .node < 2 ^ 8
     → (handled s c now frame reply .store ≡ s) ⊎ AfterOffer s (handled s c now frame reply .store)
+
+-- ---- 7 and 6, exactly
+-- a call passes the checks 4, 5, 9, 3, 1 and 2, and asks m
+pub record Asks (s : List ℕ) (c : Clock) (now : ℕ) (frame reply : List ℕ) (m : Message) : Type 0 where
+  pub room : 600 ≤ length reply
+  pub is-sound : sound s ≡ true
+  pub time : now < 2 ^ 48
+  pub phys : c .phys < 2 ^ 48
+  pub reads : readFrame frame ≡ message m
+
+-- PUT and DEL send the clock to d, and make an entry with its stamp
+pub data LocalWrite (c : Clock) (now : ℕ) (d : Clock) : Message → Entry → Type 0 where
+  a-put : (k v : List ℕ) → sendStep c now ≡ next d → LocalWrite c now d (put k v) (entryOf k v 0 (stampOf d))
+  a-del : (k : List ℕ) → sendStep c now ≡ next d → LocalWrite c now d (del k) (entryOf k [] 1 (stampOf d))
+
+-- REPL receives a stamp, which moves the clock to d, and brings its entry
+pub data Replica (c : Clock) (now : ℕ) (d : Clock) : Message → Entry → Type 0 where
+  a-repl : (e : Entry) → receiveStep c (e .stamp .phys) (e .stamp .logical) now ≡ next d → Replica c now d (repl e) e
+
+-- a local write whose stamp is not above that of the held entry of its key
+pub record OvertakenWrite (s : List ℕ) (c : Clock) (now : ℕ) (frame reply : List ℕ) : Type 0 where
+  pub request : Message
+  pub asks : Asks s c now frame reply request
+  pub sent : Clock
+  pub entry : Entry
+  pub writes : LocalWrite c now sent request entry
+  pub held : Entry
+  pub is-held : find (entry .key) (entriesOf s) ≡ some held
+  pub not-below : stampBelow (held .stamp) (entry .stamp) ≡ false
+
+-- a write with which the distinct keys held would exceed the slots
+pub record FullWrite (s : List ℕ) (c : Clock) (now : ℕ) (frame reply : List ℕ) : Type 0 where
+  pub request : Message
+  pub asks : Asks s c now frame reply request
+  pub moved : Clock
+  pub entry : Entry
+  pub writes : LocalWrite c now moved request entry ⊎ Replica c now moved request entry
+  pub exceeds : slotsOf s < length (putEntry entry (entriesOf s))
+
+-- a call is refused with 7 exactly if it is such a local write
+abbrev pub OvertakenExactly : Type 0
+OvertakenExactly = (s : List ℕ) (c : Clock) (now : ℕ) (frame reply : List ℕ) → handled s c now frame reply .refusal ≡ 7 ↔ OvertakenWrite s c now frame reply
+
+-- and with 6 exactly if it is such a write
+abbrev pub FullExactly : Type 0
+FullExactly = (s : List ℕ) (c : Clock) (now : ℕ) (frame reply : List ℕ) → Bytes frame → handled s c now frame reply .refusal ≡ 6 ↔ FullWrite s c now frame reply

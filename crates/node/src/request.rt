@@ -118,7 +118,9 @@ fn give_nothing(clock: Clock, reply: &mut [u8]) -> Handled
 
 fn get(store: &[u8], clock: Clock, key: &[u8], reply: &mut [u8]) -> Handled
     requires { ⌜ Ready (now store) (now reply) ⌝ }
-    ensures { λ r. ⌜ Settles (now (store .entry)) clock (now (reply .entry)) (gets (now (store .entry)) clock (valuePart (now (store .entry)) (now (key .entry))) (lookupAnswer (now (store .entry)) (now (key .entry)))) r (now (store .entry)) (now (reply .exit)) ⌝ }
+    ensures { λ r. ⌜ Settles (now (store .entry)) clock (now (reply .entry))
+        (gets (now (store .entry)) clock (valuePart (now (store .entry)) (now (key .entry))) (lookupAnswer (now (store .entry)) (now (key .entry))))
+        r (now (store .entry)) (now (reply .exit)) ⌝ }
 {
     let looked = lookup_unchecked(store, key);
     match looked {
@@ -156,7 +158,9 @@ fn write_locally(
     reply: &mut [u8],
 ) -> Handled
     requires { ⌜ Ready (now store) (now reply) ⌝ }
-    ensures { λ r. ⌜ Settles (now (store .entry)) clock (now (reply .entry)) (writeLocally (now (store .entry)) (now (key .entry)) (now (value .entry)) flag (sendStep clock time)) r (now (store .exit)) (now (reply .exit)) ⌝ }
+    ensures { λ r. ⌜ Settles (now (store .entry)) clock (now (reply .entry))
+        (writeLocally (now (store .entry)) (now (key .entry)) (now (value .entry)) flag (sendStep clock time))
+        r (now (store .exit)) (now (reply .exit)) ⌝ }
 {
     let sent = clock.send(time);
     let next = sent.clock;
@@ -185,7 +189,9 @@ fn take_replica(
     reply: &mut [u8],
 ) -> Handled
     requires { ⌜ Ready (now store) (now reply) ⌝ }
-    ensures { λ r. ⌜ Settles (now (store .entry)) clock (now (reply .entry)) (takeReplica (now (store .entry)) (entryOf (now (key .entry)) (now (value .entry)) flag stamp) (receiveStep clock (stamp .phys) (stamp .logical) time)) r (now (store .exit)) (now (reply .exit)) ⌝ }
+    ensures { λ r. ⌜ Settles (now (store .entry)) clock (now (reply .entry))
+        (takeReplica (now (store .entry)) (entryOf (now (key .entry)) (now (value .entry)) flag stamp) (receiveStep clock (stamp .phys) (stamp .logical) time))
+        r (now (store .exit)) (now (reply .exit)) ⌝ }
 {
     let receipt = clock.receive(stamp.phys, stamp.logical, time);
     let next = receipt.clock;
@@ -210,7 +216,9 @@ pub(crate) fn serve(
 ) -> Handled
     requires { ⌜ Ready (now store) (now reply) ⌝ }
     requires { ⌜ Within (now frame) message ⌝ }
-    ensures { λ r. ⌜ Settles (now (store .entry)) clock (now (reply .entry)) (serveOf (now (store .entry)) clock time (messageIn (now (frame .entry)) message)) r (now (store .exit)) (now (reply .exit)) ⌝ }
+    ensures { λ r. ⌜ Settles (now (store .entry)) clock (now (reply .entry))
+        (serveOf (now (store .entry)) clock time (messageIn (now (frame .entry)) message))
+        r (now (store .exit)) (now (reply .exit)) ⌝ }
 {
     match message {
         Message::Put {

@@ -36,7 +36,8 @@ read-err-requires : tie.Need-read-err-requires
 read-err-requires c κs = search needs
 
 read-keyed-requires : tie.Need-read-keyed-requires
-read-keyed-requires c κs = (frame-long _ (holds (c .before .before .before .before)), two-or-three _ (omega (arith, c .before .before .match .rest .0 .0 .0 .0 .1)) (c .if3 .taken))
+read-keyed-requires c κs =
+    (frame-long _ (holds (c .before .before .before .before)), two-or-three _ (omega (arith, c .before .before .match .rest .0 .0 .0 .0 .1)) (c .if3 .taken))
 
 returns-2 : tie.Need-returns-2
 returns-2 c = frame-read _ (holds (c .before .before .before)) 1 _ (c .before .match .keys1) (c .read-put .ensures)
@@ -57,10 +58,15 @@ returns-7 : tie.Need-returns-7
 returns-7 c = frame-read _ (holds (c .before .before .before .before .before)) _ _ refl (c .read-keyed .ensures)
 
 returns-8 : tie.Need-returns-8
-returns-8 c = let r = c .before .match .rest in frame-unknown _ (holds (c .before .before .before)) (r .0 .0 .0 .0 .1) (λ e. omega arith) (λ e. omega arith) (r .0 .0 .0 .1) (r .0 .0 .1) (r .0 .1) (r .1)
+returns-8 c =
+    let r = c .before .match .rest in
+    frame-unknown _ (holds (c .before .before .before)) (r .0 .0 .0 .0 .1) (λ e. omega arith) (λ e. omega arith) (r .0 .0 .0 .1) (r .0 .0 .1) (r .0 .1) (r .1)
 
 returns-9 : tie.Need-returns-9
-returns-9 c = let r = c .before .before .match .rest in frame-unknown _ (holds (c .before .before .before .before)) (r .0 .0 .0 .0 .1) (λ e. omega arith) (λ e. omega arith) (r .0 .0 .0 .1) (r .0 .0 .1) (r .0 .1) (r .1)
+returns-9 c =
+    let r = c .before .before .match .rest in
+    frame-unknown _ (holds (c .before .before .before .before)) (r .0 .0 .0 .0 .1) (λ e. omega arith) (λ e. omega arith) (r .0 .0 .0 .1) (r .0 .0 .1) (r .0 .1)
+    (r .1)
 
 pub read-spec : {M : Type 1} → statement M
 read-spec =

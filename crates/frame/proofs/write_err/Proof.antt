@@ -45,7 +45,8 @@ returns-3 c =
     let e = p .before .before in
     let a = e .before .before .before .args in
     let n = a .number in
-    body-written (λ (i : ℕ). be i n) _ 20 1 (a .out .now) _ _ _ (err-taken n (e .before .if1 .left) (omega arith)) (length-be 1 n) (e .if2 .left) (p .put-be .ensures) (c .before .before .seal .ensures)
+    body-written (λ (i : ℕ). be i n) _ 20 1 (a .out .now) _ _ _ (err-taken n (e .before .if1 .left) (omega arith)) (length-be 1 n) (e .if2 .left)
+    (p .put-be .ensures) (c .before .before .seal .ensures)
 
 pub write-err-spec : {M : Type 1} → statement M
 write-err-spec =

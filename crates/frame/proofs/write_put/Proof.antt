@@ -15,7 +15,8 @@ use Rattle.frame.proofs.write_put.Statement.{statement}
 use Rattle.frame.proofs.write_put.Tie as tie
 
 -- the entry that was judged is acceptable
-accepted : (c : tie.After-enum-told) → refusalOf (entryOf (c .before .before .before .before .before .before .args .key .now) (c .before .before .before .before .before .before .args .value .now) 0 least) ≡ 0
+accepted : (c : tie.After-enum-told) → let a = c .before .before .before .before .before .before .args in
+    refusalOf (entryOf (a .key .now) (a .value .now) 0 least) ≡ 0
 accepted c = sym (c .before .before .judge .ensures) ∙ ap refusalNumber (c .enum-told .given .1)
 
 judge-requires : tie.Need-judge-requires
@@ -43,7 +44,8 @@ returns-2 : tie.Need-returns-2
 unfolding typeOf frameOf
 returns-2 c =
     let a = c .before .before .before .before .before .before .before .args in
-    frame-no-room _ _ _ (put-refusal _ _ ∙ accepted (c .before)) (omega (arith, length-envelope 1 (body (put (a .key .now) (a .value .now))), length-put (a .key .now) (a .value .now)))
+    frame-no-room _ _ _ (put-refusal _ _ ∙ accepted (c .before))
+    (omega (arith, length-envelope 1 (body (put (a .key .now) (a .value .now))), length-put (a .key .now) (a .value .now)))
 
 add-end : tie.Need-add-end
 add-end c = search needs
@@ -72,7 +74,9 @@ returns-3 c =
     let p = c .before .before .before .before .before .before in
     let t = p .before .before .before in
     let a = t .before .before .before .before .before .before .args in
-    body-written (λ (i : ℕ). body (put (a .key .now) (a .value .now))) _ 1 (length (a .key .now) + length (a .value .now) + 3) (a .out .now) _ _ _ (put-refusal _ _ ∙ accepted t) (length-put (a .key .now) (a .value .now)) (p .before .before .if1 .left) (p .put-pair .ensures) (c .before .before .seal .ensures)
+    body-written (λ (i : ℕ). body (put (a .key .now) (a .value .now))) _ 1 (length (a .key .now) + length (a .value .now) + 3) (a .out .now) _ _ _
+    (put-refusal _ _ ∙ accepted t) (length-put (a .key .now) (a .value .now)) (p .before .before .if1 .left) (p .put-pair .ensures)
+    (c .before .before .seal .ensures)
 
 pub write-put-spec : {M : Type 1} → statement M
 write-put-spec =

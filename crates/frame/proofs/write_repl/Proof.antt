@@ -14,7 +14,8 @@ use Rattle.frame.proofs.write_repl.Statement.{statement}
 use Rattle.frame.proofs.write_repl.Tie as tie
 
 -- the entry that was judged is acceptable
-accepted : (c : tie.After-enum-told) → refusalOf (entryOf (c .before .before .before .before .before .before .args .key .now) (c .before .before .before .before .before .before .args .value .now) (c .before .before .before .before .before .before .args .flag) (c .before .before .before .before .before .before .args .stamp)) ≡ 0
+accepted : (c : tie.After-enum-told) → let a = c .before .before .before .before .before .before .args in
+    refusalOf (entryOf (a .key .now) (a .value .now) (a .flag) (a .stamp)) ≡ 0
 accepted c = sym (c .before .before .judge .ensures) ∙ ap refusalNumber (c .enum-told .given .1)
 
 judge-requires : tie.Need-judge-requires
@@ -73,7 +74,8 @@ returns-3 c =
     let t = p .before .before .before in
     let a = t .before .before .before .before .before .before .args in
     let e = (entryOf (a .key .now) (a .value .now) (a .flag) (a .stamp)) in
-    body-written (λ (i : ℕ). body (repl e)) _ 4 (length (e .key) + length (e .value) + 13) (a .out .now) _ _ _ (repl-refusal e ∙ accepted t) (length-repl e) (p .before .before .if1 .left) (p .put-entry .ensures) (c .before .before .seal .ensures)
+    body-written (λ (i : ℕ). body (repl e)) _ 4 (length (e .key) + length (e .value) + 13) (a .out .now) _ _ _ (repl-refusal e ∙ accepted t) (length-repl e)
+    (p .before .before .if1 .left) (p .put-entry .ensures) (c .before .before .seal .ensures)
 
 pub write-repl-spec : {M : Type 1} → statement M
 write-repl-spec =

@@ -53,7 +53,8 @@ returns-3 c =
     let e = p .before .before in
     let a = e .before .before .before .before .args in
     let v = a .value .now in
-    body-written (λ (i : ℕ). counted 2 v) _ 17 (length v + 2) (a .out .now) _ _ _ (value-taken v (e .before .if1 .left)) (omega (arith, length-counted 2 v)) (e .if2 .left) (p .put-counted .ensures) (c .before .before .seal .ensures)
+    body-written (λ (i : ℕ). counted 2 v) _ 17 (length v + 2) (a .out .now) _ _ _ (value-taken v (e .before .if1 .left)) (omega (arith, length-counted 2 v))
+    (e .if2 .left) (p .put-counted .ensures) (c .before .before .seal .ensures)
 
 pub write-value-spec : {M : Type 1} → statement M
 write-value-spec =

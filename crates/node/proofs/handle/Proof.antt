@@ -8,6 +8,7 @@ use Rattle.frame.specs.Reading.{meaning}
 use Rattle.frame.proofs.RoundTrips.{read-lies-within}
 use Rattle.image.specs.Image.{sound}
 use Rattle.node.specs.Handler.{refused, serveOutcome, serveFrame}
+use Rattle.node.specs.Request.{Ready}
 use Rattle.node.proofs.Serving.{not-read, was-read}
 use Rattle.node.proofs.Handling.{no-room, handles, refuses, unsound, bad-now, bad-clock, reply-type, served}
 use Rattle.node.proofs.handle.Statement.{statement}
@@ -17,13 +18,20 @@ use Rattle.node.proofs.handle.Tie as tie
 sound-store : (c : tie.Else2) → sound (c .before .before .before .before .before .before .before .args .store .now) ≡ true
 sound-store c = sym (c .before .is-sound .ensures) ∙ not-false _ (c .if2 .left)
 
+is-ready : (c : tie.Else2) → let a = c .before .before .before .before .before .before .before .args in Ready (a .store .now) (a .reply .now)
+is-ready c = record { is-sound = sound-store c; room = c .before .before .before .if1 .left }
+
 -- the call is served by what was read
-by-outcome : (c : tie.After-read) → let a = c .before .before .before .before .before .before .before .before .before .before .before .before .before .args in serveOutcome (a .store .now) (a .clock) (a .time) (meaning (a .frame .now) (c .read .result)) ≡ serveFrame (a .store .now) (a .clock) (a .time) (a .frame .now)
+by-outcome : (c : tie.After-read) → let a = c .before .before .before .before .before .before .before .before .before .before .before .before .before .args in
+    serveOutcome (a .store .now) (a .clock) (a .time) (meaning (a .frame .now) (c .read .result)) ≡ serveFrame (a .store .now) (a .clock) (a .time)
+    (a .frame .now)
 by-outcome c =
     let p = c .before .before .before in
     let t = p .before .before in
-    let a = c .before .before .before .before .before .before .before .before .before .before .before .before .before .args in
-    served (a .store .now) (a .clock) (a .time) (a .frame .now) (a .reply .now) (sound-store (t .before)) (t .if3 .left) (p .if4 .left) (sym (c .before .before .is-reply .ensures) ∙ c .before .if5 .left) _ (c .read .ensures)
+    let k = t .before in
+    let a = k .before .before .before .before .before .before .before .args in
+    served (a .store .now) (a .clock) (a .time) (a .frame .now) (a .reply .now) (sound-store k) (t .if3 .left) (p .if4 .left)
+    (sym (c .before .before .is-reply .ensures) ∙ c .before .if5 .left) _ (c .read .ensures)
 
 returns : tie.Need-returns
 returns c =
@@ -48,7 +56,9 @@ returns-2 c =
     let f = k .before .before in
     let a = f .before .before .before .before .args in
     refuses (a .store .now) (a .clock) (a .time) (a .frame .now) (a .reply .now) (f .if1 .left) _ _ _ 5
-    (unsound (a .store .now) (a .clock) (a .time) (a .frame .now) (a .reply .now) (sym (k .is-sound .ensures) ∙ not-true _ (c .before .before .before .before .if2 .taken))) refl (c .before .before .refuse .ensures)
+    (unsound (a .store .now) (a .clock) (a .time) (a .frame .now) (a .reply .now)
+    (sym (k .is-sound .ensures) ∙ not-true _ (c .before .before .before .before .if2 .taken)))
+    refl (c .before .before .refuse .ensures)
 
 refuse-requires-2 : tie.Need-refuse-requires-2
 refuse-requires-2 c κs = search needs
@@ -65,7 +75,8 @@ returns-3 c =
     let f = k .before .before .before in
     let a = f .before .before .before .before .args in
     refuses (a .store .now) (a .clock) (a .time) (a .frame .now) (a .reply .now) (f .if1 .left) _ _ _ 9
-    (bad-now (a .store .now) (a .clock) (a .time) (a .frame .now) (a .reply .now) (sound-store k) (c .before .before .before .before .if3 .taken)) refl (c .before .before .refuse2 .ensures)
+    (bad-now (a .store .now) (a .clock) (a .time) (a .frame .now) (a .reply .now) (sound-store k) (c .before .before .before .before .if3 .taken))
+    refl (c .before .before .refuse2 .ensures)
 
 refuse-requires-3 : tie.Need-refuse-requires-3
 refuse-requires-3 c κs = search needs
@@ -83,7 +94,9 @@ returns-4 c =
     let f = k .before .before .before in
     let a = f .before .before .before .before .args in
     refuses (a .store .now) (a .clock) (a .time) (a .frame .now) (a .reply .now) (f .if1 .left) _ _ _ 9
-    (bad-clock (a .store .now) (a .clock) (a .time) (a .frame .now) (a .reply .now) (sound-store k) (t .if3 .left) (c .before .before .before .before .if4 .taken)) refl (c .before .before .refuse3 .ensures)
+    (bad-clock (a .store .now) (a .clock) (a .time) (a .frame .now) (a .reply .now) (sound-store k) (t .if3 .left)
+    (c .before .before .before .before .if4 .taken))
+    refl (c .before .before .refuse3 .ensures)
 
 is-reply-requires : tie.Need-is-reply-requires
 is-reply-requires c κs = search needs
@@ -106,7 +119,8 @@ returns-5 c =
     let a = f .before .before .before .before .args in
     refuses (a .store .now) (a .clock) (a .time) (a .frame .now) (a .reply .now) (f .if1 .left) _ _ _ 3
     (reply-type (a .store .now) (a .clock) (a .time) (a .frame .now) (a .reply .now) (sound-store k) (t .if3 .left) (p .if4 .left)
-    (sym (c .before .before .before .before .before .is-reply .ensures) ∙ c .before .before .before .before .if5 .taken)) refl (c .before .before .refuse4 .ensures)
+    (sym (c .before .before .before .before .before .is-reply .ensures) ∙ c .before .before .before .before .if5 .taken))
+    refl (c .before .before .refuse4 .ensures)
 
 read-requires : tie.Need-read-requires
 read-requires c κs = search needs
@@ -142,8 +156,7 @@ returns-6 c =
 serve-requires : tie.Need-serve-requires
 serve-requires c κs =
     let k = c .before .before .before .before .before in
-    let f = k .before .before .before .before .before .before .before .before .before in
-    (record { is-sound = sound-store (k .before .before .before .before .before .before); room = f .if1 .left }, read-lies-within _ _ (sym (k .read .ensures) ∙ c .before .before .before .outcome .given .1))
+    (is-ready (k .before .before .before .before .before .before), read-lies-within _ _ (sym (k .read .ensures) ∙ c .before .before .before .outcome .given .1))
 
 same-length-11 : tie.Need-same-length-11
 same-length-11 c = search needs
@@ -153,11 +166,13 @@ same-length-12 c = search needs
 
 returns-7 : tie.Need-returns-7
 returns-7 c =
-    let k = c .before .before .before .before .before .before .before .before .before .before in
+    let o = c .before .before .before .before .before .before .before .before in
+    let k = o .before .before in
     let f = k .before .before .before .before .before .before .before .before .before in
     let a = f .before .before .before .before .args in
     handles (a .store .now) (a .clock) (a .time) (a .frame .now) (a .reply .now) (f .if1 .left) _ _ _ _
-    (was-read (a .store .now) (a .clock) (a .time) (a .frame .now) _ _ (c .before .before .before .before .before .before .before .before .outcome .given .1) ∙ by-outcome k) (c .before .before .before .before .serve .ensures)
+    (was-read (a .store .now) (a .clock) (a .time) (a .frame .now) _ _ (o .outcome .given .1) ∙ by-outcome k)
+    (c .before .before .before .before .serve .ensures)
 
 pub handle-spec : {M : Type 1} → statement M
 handle-spec =

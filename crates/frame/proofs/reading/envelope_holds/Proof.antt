@@ -58,7 +58,8 @@ returns-5 c =
     let s = c1 .before .before .args .frame .now in
     let long = c1 .if1 .left in
     decided s (λ i. c4 .before .shared-slice-known2 .given i .fits) long (c3 .before .before .if2 .left) (sym (c3 .before .number-at .ensures) ∙ c3 .if3 .left)
-    (number-byte 3 s (omega arith) ∙ c4 .if4 .left) (c .before .before .number-at2 .result) (c .crc32c .result) (c .before .before .number-at2 .ensures) (c .crc32c .ensures) (omega arith)
+    (number-byte 3 s (omega arith) ∙ c4 .if4 .left) (c .before .before .number-at2 .result) (c .crc32c .result) (c .before .before .number-at2 .ensures)
+    (c .crc32c .ensures) (omega arith)
 
 pub envelope-holds-spec : {M : Type 1} → statement M
 envelope-holds-spec =

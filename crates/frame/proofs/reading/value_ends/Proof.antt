@@ -19,7 +19,9 @@ sub-result-2 : tie.Need-sub-result-2
 sub-result-2 c = search needs
 
 returns-2 : tie.Need-returns-2
-returns-2 c = let a = c .before .before .before .args in ends-by-length (a .at) (a .frame .now) (c .number-at .result) (c .before .if1 .left) (c .number-at .ensures)
+returns-2 c =
+    let a = c .before .before .before .args in
+    ends-by-length (a .at) (a .frame .now) (c .number-at .result) (c .before .if1 .left) (c .number-at .ensures)
 
 pub value-ends-spec : {M : Type 1} → statement M
 value-ends-spec =

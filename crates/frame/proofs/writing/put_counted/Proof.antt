@@ -51,9 +51,11 @@ returns c =
     let s = st .args .s .now in
     let w = st .args .width in
     let m = putMid 0 (w - 0) out (p .put-be .last .0) in
-    let w1 = write-part (λ (k : ℕ). be k (length s)) 0 w w [] out out (p .put-be .last .0) (omega arith) (omega arith) (length-be w (length s)) (written-none out) (p .put-be .ensures) in
+    let w1 = write-part (λ (k : ℕ). be k (length s)) 0 w w [] out out (p .put-be .last .0) (omega arith) (omega arith) (length-be w (length s))
+    (written-none out) (p .put-be .ensures) in
     let n : length out ≡ length m = omega arith in
-    let w2 = write-part (λ (k : ℕ). padded k s) w (length s) (length m) (be w (length s)) out m (c .before .before .put-padded .last .0) (omega arith) (omega arith) (length-padded (length s) s) w1 (c .before .before .put-padded .ensures) in
+    let w2 = write-part (λ (k : ℕ). padded k s) w (length s) (length m) (be w (length s)) out m (c .before .before .put-padded .last .0) (omega arith)
+    (omega arith) (length-padded (length s) s) w1 (c .before .before .put-padded .ensures) in
     written-all (length m) _ out _ n w2 ∙ ap (λ (r : List ℕ). be w (length s) ++ r) (padded-exact s)
 
 pub put-counted-spec : {M : Type 1} → statement M

@@ -92,10 +92,14 @@ returns c =
     let m2 = putMid at (at + 1 - at) m1 (p2 .put-be .last .0) in
     let m3 = putMid (at + 1) (at + 10 - (at + 1)) m2 (p3 .put-stamp .last .0) in
     let n : length m3 ≡ length out = omega (arith, p3 .before .before .before .out2 .given, p2 .before .before .before .out .given) in
-    let w1 = write-part (λ (i : ℕ). counted 1 k) 0 at at [] out out (p1 .put-counted .last .0) (omega arith) (omega arith) (omega arith) (written-none out) (p1 .put-counted .ensures) in
-    let w2 = write-part (λ (i : ℕ). be i (a .flag)) at 1 (at + 1) _ out m1 (p2 .put-be .last .0) refl (omega arith) (length-be 1 (a .flag)) w1 (p2 .put-be .ensures) in
-    let w3 = write-part (λ (i : ℕ). stampBytes (a .stamp)) (at + 1) 9 (at + 10) _ out m2 (p3 .put-stamp .last .0) (omega arith) (omega arith) (length-stamp (a .stamp)) w2 (p3 .put-stamp .ensures) in
-    let w4 = write-part (λ (i : ℕ). counted 2 v) (at + 10) (length v + 2) (length m3) _ out m3 (p4 .put-counted2 .last .0) (omega arith) (omega arith) (omega arith) w3 (p4 .put-counted2 .ensures) in
+    let w1 = write-part (λ (i : ℕ). counted 1 k) 0 at at [] out out (p1 .put-counted .last .0) (omega arith) (omega arith) (omega arith) (written-none out)
+    (p1 .put-counted .ensures) in
+    let w2 = write-part (λ (i : ℕ). be i (a .flag)) at 1 (at + 1) _ out m1 (p2 .put-be .last .0) refl (omega arith) (length-be 1 (a .flag)) w1
+    (p2 .put-be .ensures) in
+    let w3 = write-part (λ (i : ℕ). stampBytes (a .stamp)) (at + 1) 9 (at + 10) _ out m2 (p3 .put-stamp .last .0) (omega arith) (omega arith)
+    (length-stamp (a .stamp)) w2 (p3 .put-stamp .ensures) in
+    let w4 = write-part (λ (i : ℕ). counted 2 v) (at + 10) (length v + 2) (length m3) _ out m3 (p4 .put-counted2 .last .0) (omega arith) (omega arith)
+    (omega arith) w3 (p4 .put-counted2 .ensures) in
     written-all (length m3) _ out _ (omega arith) w4
 
 pub put-entry-spec : {M : Type 1} → statement M

@@ -53,8 +53,10 @@ returns c =
     let lk = length-counted 1 k in
     let lv = length-counted 2 v in
     let m = putMid 0 (length k + 1 - 0) out (p1 .put-counted .last .0) in
-    let w1 = write-part (λ (i : ℕ). counted 1 k) 0 (length k + 1) (length k + 1) [] out out (p1 .put-counted .last .0) (omega arith) (omega arith) (omega arith) (written-none out) (p1 .put-counted .ensures) in
-    let w2 = write-part (λ (i : ℕ). counted 2 v) (length k + 1) (length v + 2) (length m) (counted 1 k) out m (p2 .put-counted2 .last .0) (omega arith) (omega arith) (omega arith) w1 (p2 .put-counted2 .ensures) in
+    let w1 = write-part (λ (i : ℕ). counted 1 k) 0 (length k + 1) (length k + 1) [] out out (p1 .put-counted .last .0) (omega arith) (omega arith) (omega arith)
+    (written-none out) (p1 .put-counted .ensures) in
+    let w2 = write-part (λ (i : ℕ). counted 2 v) (length k + 1) (length v + 2) (length m) (counted 1 k) out m (p2 .put-counted2 .last .0) (omega arith)
+    (omega arith) (omega arith) w1 (p2 .put-counted2 .ensures) in
     written-all (length m) _ out _ (omega arith) w2
 
 pub put-pair-spec : {M : Type 1} → statement M

@@ -90,10 +90,12 @@ returns c =
     let n = st .args .n in
     let t = st .args .kind in
     let room = st .pre .1 in
-    let w1 = write-part (λ (w : ℕ). be w (n + 6)) 0 2 2 [] s s (p .put-be .last .0) refl (omega arith) (length-be 2 (n + 6)) (written-none s) (p .put-be .ensures) in
+    let w1 = write-part (λ (w : ℕ). be w (n + 6)) 0 2 2 [] s s (p .put-be .last .0) refl (omega arith) (length-be 2 (n + 6)) (written-none s)
+    (p .put-be .ensures) in
     let w2 = write-byte 2 t (be 2 (n + 6)) s (putMid 0 2 s (p .put-be .last .0)) (omega arith) w1 in
     let w3 = write-byte 3 0 _ s (set (putMid 0 2 s (p .put-be .last .0)) 2 t) (omega arith) w2 in
-    frame-sealed t n s _ room w3 (c .before .before .before .before .crc32c .result) (c .before .before .put-be2 .last .0) (c .before .before .before .before .crc32c .ensures) (c .before .before .put-be2 .ensures)
+    frame-sealed t n s _ room w3 (c .before .before .before .before .crc32c .result) (c .before .before .put-be2 .last .0)
+    (c .before .before .before .before .crc32c .ensures) (c .before .before .put-be2 .ensures)
 
 pub seal-spec : {M : Type 1} → statement M
 seal-spec =

@@ -23,7 +23,8 @@ returns-2 : tie.Need-returns-2
 returns-2 c =
     let e = c .before .before .before .before in
     let out = e .before .before .args .out .now in
-    sealed-written 0 (e .before .before .args .kind) 0 [] out out _ _ refl refl (e .if1 .left) (same-written (sym (append-nil (take 4 out))) (write-front out (omega arith))) (c .before .before .seal .ensures)
+    sealed-written 0 (e .before .before .args .kind) 0 [] out out _ _ refl refl (e .if1 .left)
+    (same-written (sym (append-nil (take 4 out))) (write-front out (omega arith))) (c .before .before .seal .ensures)
 
 pub write-empty-spec : {M : Type 1} → statement M
 write-empty-spec = tie.close (tie.spec returns seal-requires same-length returns-2)

@@ -70,7 +70,8 @@ returns-3 c =
     let p = c .before .before .before .before .before .before in
     let t = p .before .before .before in
     let a = t .before .before .before .before .before .before .args in
-    body-written (λ (i : ℕ). counted 1 (a .key .now)) _ (a .kind) (length (a .key .now) + 1) (a .out .now) _ _ _ (accepted t) (omega (arith, length-counted 1 (a .key .now))) (p .before .before .if1 .left) (p .put-counted .ensures) (c .before .before .seal .ensures)
+    body-written (λ (i : ℕ). counted 1 (a .key .now)) _ (a .kind) (length (a .key .now) + 1) (a .out .now) _ _ _ (accepted t)
+    (omega (arith, length-counted 1 (a .key .now))) (p .before .before .if1 .left) (p .put-counted .ensures) (c .before .before .seal .ensures)
 
 pub write-keyed-spec : {M : Type 1} → statement M
 write-keyed-spec =

@@ -15,7 +15,9 @@ same-length : tie.Need-same-length
 same-length c = search needs
 
 returns : tie.Need-returns
-returns c = replies ok _ ok-taken (c .before .before .before .before .before .before .pre) _ _ (c .before .before .before .write-ok .ensures) _ _ 0 _ (c .count .ensures) refl
+returns c =
+    replies ok _ ok-taken (c .before .before .before .before .before .before .pre) _ _ (c .before .before .before .write-ok .ensures) _ _ 0 _
+    (c .count .ensures) refl
 
 pub accept-spec : {M : Type 1} → statement M
 accept-spec = tie.close (tie.spec write-ok-requires count-requires same-length returns)

@@ -15,7 +15,9 @@ same-length : tie.Need-same-length
 same-length c = search needs
 
 returns : tie.Need-returns
-returns c = replies notFound _ not-found-taken (c .before .before .before .before .before .before .pre) _ _ (c .before .before .before .write-not-found .ensures) _ _ 0 _ (c .count .ensures) refl
+returns c =
+    replies notFound _ not-found-taken (c .before .before .before .before .before .before .pre) _ _ (c .before .before .before .write-not-found .ensures) _ _ 0
+    _ (c .count .ensures) refl
 
 pub give-nothing-spec : {M : Type 1} → statement M
 give-nothing-spec =

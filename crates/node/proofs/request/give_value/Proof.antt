@@ -16,7 +16,10 @@ same-length : tie.Need-same-length
 same-length c = search needs
 
 returns : tie.Need-returns
-returns c = let s = c .before .before .before .before .before .before .before in replies (value (s .args .value .now)) _ (value-taken _ (s .pre .1)) (s .pre .0) _ _ (c .before .before .before .write-value .ensures) _ _ 0 _ (c .count .ensures) refl
+returns c =
+    let s = c .before .before .before .before .before .before .before in
+    replies (value (s .args .value .now)) _ (value-taken _ (s .pre .1)) (s .pre .0) _ _ (c .before .before .before .write-value .ensures) _ _ 0 _
+    (c .count .ensures) refl
 
 pub give-value-spec : {M : Type 1} → statement M
 give-value-spec = tie.close (tie.spec write-value-requires count-requires same-length returns)

@@ -19,7 +19,11 @@ same-length : tie.Need-same-length
 same-length c = search needs
 
 returns : tie.Need-returns
-returns c = let s = c .before .before .before .before .before .before .before in replies (err (number (s .args .refusal))) _ (refusal-taken (s .args .refusal)) (s .pre) _ _ (rw (c .before .before .before .before .before .number .ensures) at (c .before .before .before .write-err .ensures)) _ _ (number (s .args .refusal)) _ (c .count .ensures) refl
+returns c =
+    let s = c .before .before .before .before .before .before .before in
+    replies (err (number (s .args .refusal))) _ (refusal-taken (s .args .refusal)) (s .pre) _ _
+    (rw (c .before .before .before .before .before .number .ensures) at (c .before .before .before .write-err .ensures)) _ _ (number (s .args .refusal)) _
+    (c .count .ensures) refl
 
 pub refuse-spec : {M : Type 1} → statement M
 refuse-spec =

@@ -112,7 +112,8 @@ returns-3 c =
     let m = k .before .before in
     let a = m .before .before .before .before .before .args in
     settled-as _ _ _ _ _ _ _ _
-    (deleted (a .store .now) (a .clock) (a .time) (a .frame .now) (a .message) _ _ _ (m .message3 .given .1) (k .part4 .ensures)) (c .before .before .before .before .write-locally2 .ensures)
+    (deleted (a .store .now) (a .clock) (a .time) (a .frame .now) (a .message) _ _ _ (m .message3 .given .1) (k .part4 .ensures))
+    (c .before .before .before .before .write-locally2 .ensures)
 
 same-length-7 : tie.Need-same-length-7
 same-length-7 c = search needs
@@ -126,7 +127,8 @@ returns-4 c =
     let m = v .before .before .before in
     let a = m .before .before .before .before .before .args in
     settled-as _ _ _ _ _ _ _ _
-    (replicated (a .store .now) (a .clock) (a .time) (a .frame .now) (a .message) _ _ _ _ _ _ _ _ (m .message4 .given .1) (v .before .part5 .ensures) (v .part6 .ensures))
+    (replicated (a .store .now) (a .clock) (a .time) (a .frame .now) (a .message) _ _ _ _ _ _ _ _ (m .message4 .given .1) (v .before .part5 .ensures)
+    (v .part6 .ensures))
     (c .before .before .before .before .take-replica .ensures)
 
 same-length-9 : tie.Need-same-length-9

@@ -61,7 +61,8 @@ returns-2 c =
     (received (a .store .now) (a .clock) (k .receive .result .clock) e (receiveStep (a .clock) (p .phys) (p .logical) (a .time))
     (receive-numbered (a .clock) (p .phys) (p .logical) (a .time)) (k .receive .ensures .clock-is)
     (sym (ap receiveMeaning (m .enum-told .given .1)) ∙ k .receive .ensures .answer-is))
-    (offer-settled (a .store .now) (st .pre .is-sound) e _ (f .offer-unchecked .ensures .1) _ _ _ _ _ (f .offer-unchecked .result) (f .offer-unchecked .ensures .0)
+    (offer-settled (a .store .now) (st .pre .is-sound) e _ (f .offer-unchecked .ensures .1) _ _ _ _ _ (f .offer-unchecked .result)
+    (f .offer-unchecked .ensures .0)
     (c .before .before .reply-to-offer .ensures))
 
 pub take-replica-spec : {M : Type 1} → statement M

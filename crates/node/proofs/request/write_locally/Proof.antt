@@ -80,8 +80,10 @@ returns-3 c =
     let e = entryOf (a .key .now) (a .value .now) (a .flag) (m .answer2 .given .0 .0) in
     settled-as _ _ _ _ _ _ _ _
     (sent (a .store .now) (a .clock) (k .send .result .clock) (st .pre .is-sound) (a .key .now) (a .value .now) (a .flag) _ _ (o .is-overtaken .ensures)
-    (sendStep (a .clock) (a .time)) (sym (ap sendMeaning (m .answer2 .given .1)) ∙ k .send .ensures .answer-is) (k .send .ensures .clock-is) (f .before .before .if1 .left))
-    (offer-settled (a .store .now) (st .pre .is-sound) e _ (f .offer-unchecked .ensures .1) _ _ _ _ _ (f .offer-unchecked .result) (f .offer-unchecked .ensures .0)
+    (sendStep (a .clock) (a .time)) (sym (ap sendMeaning (m .answer2 .given .1)) ∙ k .send .ensures .answer-is) (k .send .ensures .clock-is)
+    (f .before .before .if1 .left))
+    (offer-settled (a .store .now) (st .pre .is-sound) e _ (f .offer-unchecked .ensures .1) _ _ _ _ _ (f .offer-unchecked .result)
+    (f .offer-unchecked .ensures .0)
     (c .before .before .reply-to-offer .ensures))
 
 pub write-locally-spec : {M : Type 1} → statement M
