@@ -1,4 +1,5 @@
--- Messages and their bodies: which messages are taken, how long their bodies are, and that a message in its frame is read as it is.
+-- Messages and their bodies: which messages are taken, how long their bodies are, and that a
+-- message in its frame is read as it is.
 use mathlib.Core.Path.{_≡_, refl, sym, ap, ap₂, _∙_}
 use mathlib.Core.Logic.{inl, inr}
 use mathlib.Core.Bool.{Bool, true, false, _&&_}

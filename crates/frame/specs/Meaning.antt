@@ -60,6 +60,7 @@ abbrev pub WrittenWhole : Type 0
 WrittenWhole = (m : Message) (out : List ℕ) (r : Wrote) (after : List ℕ) → messageRefusal m ≡ 0 → length (frameOf m) ≤ length out → Writes m out r after
     → (r ≡ BytesWrote (length (frameOf m))) × (after ≡ frameOf m ++ drop (length (frameOf m)) out)
 
--- what a writer leaves at the front of a buffer, as many bytes as it says, reads back as the message
+-- what a writer leaves at the front of a buffer, as many bytes as it says, reads back as the
+-- message
 abbrev pub FrontReadsBack : Type 0
 FrontReadsBack = (m : Message) (out : List ℕ) (n : ℕ) (after : List ℕ) → InRange m → Writes m out (BytesWrote n) after → readFrame (take n after) ≡ message m

@@ -1,6 +1,8 @@
--- What a frame says, for any bytes. Offsets are those of the frame: the body begins at 4, after LEN, TYPE and FLAGS.
--- A frame rule that is broken is BAD_FRAME (3), whatever else is wrong. The rules are looked at in this order: LEN, the checksum, FLAGS, TYPE, whether the body
--- is used up exactly, its flag or its ERR number. In a frame that keeps them all, the key (1) comes before the value (2).
+-- What a frame says, for any bytes. Offsets are those of the frame: the body begins at 4, after
+-- LEN, TYPE and FLAGS. A frame rule that is broken is BAD_FRAME (3), whatever else is wrong. The
+-- rules are looked at in this order: LEN, the checksum, FLAGS, TYPE, whether the body is used up
+-- exactly, its flag or its ERR number. In a frame that keeps them all, the key (1) comes before
+-- the value (2).
 use Prim.Native.Nat.{ℕ, _+_, _-_}
 use mathlib.Core.Bool.{Bool, cond, not, _&&_}
 use mathlib.Core.List.{List}

@@ -2,7 +2,8 @@
 use entry::Refusal;
 use entry::Stamp;
 
-// A message as it stands in its frame: a key or a value is given by its offset in the frame and its length.
+// A message as it stands in its frame: a key or a value is given by its offset in the frame and
+// its length.
 pub enum Message {
     Put {
         key_at: usize,

@@ -1,4 +1,5 @@
-// The parts of the reader: the envelope, and the bodies. Offsets are those of the frame, whose body begins at 4.
+// The parts of the reader: the envelope, and the bodies. Offsets are those of the frame, whose
+// body begins at 4.
 use crate::GET;
 use crate::MAX_FRAME;
 use crate::OK;

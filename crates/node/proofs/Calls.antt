@@ -86,7 +86,8 @@ module _ (s : List ℕ) (c : Clock) (now : ℕ) (frame : List ℕ) where
           by-outcome (settle s c reply x .store) (settle s c reply x .clock) (k .says) (f .0) (rw p) (rw p) (readFrame frame) refl (f .1)
     ]
 
-    -- what a call did: nothing to the store and the clock; or it stepped the clock, and offered an entry with the key of the message that its frame reads as
+    -- what a call did: nothing to the store and the clock; or it stepped the clock, and
+    -- offered an entry with the key of the message that its frame reads as
     pub record Wrote : Type 0 where
       pub is-sound : sound s ≡ true
       pub asks : Message

@@ -208,7 +208,8 @@ overtaken-exactly s c now frame reply = (
       (overtaken-write s c now (w .sent) (w .request) (w .entry) (w .held) (w .writes) (w .is-held) (w .not-below)),
 )
 
--- ---- a key that does not fit is not held, so its write is not overtaken, and the offer is refused with 6
+-- ---- a key that does not fit is not held, so its write is not overtaken, and the offer is
+-- refused with 6
 module _ (s : List ℕ) (h : sound s ≡ true) (e : Entry) (l : slotsOf s < length (put e (entriesOf s))) where
   not-held : (o : Option Entry) → find (e .key) (entriesOf s) ≡ o → find (e .key) (entriesOf s) ≡ none
   unfolding isHeld

@@ -26,7 +26,8 @@ pub data Served : Type 0 where
   refused : ℕ → Served
 
 -- ---- writing
--- by the answer of an offer: OK whether the entry is stored, replaces the held one, or the held one is kept
+-- by the answer of an offer: OK whether the entry is stored, replaces the held one, or the held
+-- one is kept
 unfoldable pub offerServed : List ℕ → Clock → Answer → Served
 offerServed store next answer.stored = done store next message.ok
 offerServed store next answer.replaced = done store next message.ok
@@ -38,7 +39,8 @@ offerServed store next (answer.refused n) = refused n
 unfoldable pub offered : List ℕ → Clock → Entry → Served
 offered store next e = offerServed (afterOffer store e) next (offerAnswer store e)
 
--- PUT and DEL send the clock and offer the entry with its stamp; a stamp that is not greater than the held one for that key is OVERTAKEN, 7
+-- PUT and DEL send the clock and offer the entry with its stamp; a stamp that is not greater
+-- than the held one for that key is OVERTAKEN, 7
 unfoldable pub writeLocally : List ℕ → List ℕ → List ℕ → ℕ → Stepped → Served
 writeLocally store k v f (clock.next c) = cond (overtaken store k (stampOf c)) (refused 7) (offered store c (entryOf k v f (stampOf c)))
 writeLocally store k v f (clock.refused n) = refused n

@@ -89,18 +89,21 @@ abbrev pub CallNeverLosesOrLowers : Type 0
 CallNeverLosesOrLowers = (s : List ℕ) (c : Clock) (now : ℕ) (frame reply : List ℕ) → Bytes frame → sound s ≡ true → c .node < 2 ^ 8
     → (sound (handled s c now frame reply .store) ≡ true) × ((h : Entry) → h ∈ entriesOf s → StillHeld h (entriesOf (handled s c now frame reply .store)))
 
--- the entry held for a key after a replica of it: the replica as it came, unless the one held before is not lower
+-- the entry held for a key after a replica of it: the replica as it came, unless the one held
+-- before is not lower
 abbrev pub heldAfter : Entry → Option Entry → Entry
 heldAfter e none = e
 heldAfter e (some h) = cond (stampBelow (h .stamp) (e .stamp)) e h
 
--- an accepted REPL leaves its entry held with its stamp unaltered, far ahead or not, unless the held one is not lower
+-- an accepted REPL leaves its entry held with its stamp unaltered, far ahead or not, unless the
+-- held one is not lower
 abbrev pub AcceptedReplicaIsHeld : Type 0
 AcceptedReplicaIsHeld = (s : List ℕ) (c : Clock) (now : ℕ) (frame reply : List ℕ) (e : Entry) → Bytes frame → readFrame frame ≡ message (repl e)
     → handled s c now frame reply .refusal ≡ 0
     → find (e .key) (entriesOf (handled s c now frame reply .store)) ≡ some (heldAfter e (find (e .key) (entriesOf s)))
 
--- a call, refused or not, leaves the entries of keys other than that of its frame's message as they were
+-- a call, refused or not, leaves the entries of keys other than that of its frame's message as
+-- they were
 abbrev pub OtherKeysUntouched : Type 0
 OtherKeysUntouched = (s : List ℕ) (c : Clock) (now : ℕ) (frame reply k : List ℕ) → Bytes frame → c .node < 2 ^ 8
     → ((m : Message) → readFrame frame ≡ message m → k ≡ keyOf m → ⊥) → find k (entriesOf (handled s c now frame reply .store)) ≡ find k (entriesOf s)

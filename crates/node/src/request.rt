@@ -134,7 +134,8 @@ fn get(store: &[u8], clock: Clock, key: &[u8], reply: &mut [u8]) -> Handled
     }
 }
 
-// What is replied to an offer: OK also where the held entry stays. The clock goes on to `next` unless the offer is refused.
+// What is replied to an offer: OK also where the held entry stays. The clock goes on to `next`
+// unless the offer is refused.
 fn reply_to_offer(answer: Offered, clock: Clock, next: Clock, reply: &mut [u8]) -> Handled
     requires { ⌜ 600 ≤ length (now reply) ⌝ }
     ensures { λ r. ⌜ RepliesToOffer (answerOf answer) clock next (now (reply .entry)) r (now (reply .exit)) ⌝ }

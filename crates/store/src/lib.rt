@@ -274,7 +274,8 @@ pub fn merge(receiver: &mut [u8], giver: &[u8]) -> Merged
     Merged::Done
 }
 
-// Whether a stamp is overtaken by that of the entry held for a key, in a store that is known to be sound.
+// Whether a stamp is overtaken by that of the entry held for a key, in a store that is known to
+// be sound.
 pub fn is_overtaken(store: &[u8], key: &[u8], stamp: Stamp) -> bool
     ensures { λ r. ⌜ r ≡ overtakenUnchecked (now (store .entry)) (now (key .entry)) stamp ⌝ }
 {
