@@ -3,6 +3,9 @@
 use crate::antt::{is_made_of, Laws};
 use std::collections::BTreeMap;
 
+/// Said of a function that has no proof file, where the prover's own search does not find a fact.
+const LEFT_OPEN: &str = "; `search` does not close `";
+
 /// An error: where it stands, the declaration that it is about, and what it says.
 #[derive(Debug)]
 pub struct Fault {
@@ -48,9 +51,11 @@ impl Log {
         let verdict = match text.lines().rev().find(|line| line.starts_with("logic=")) {
             _ if !in_time => Verdict::NoVerdict,
             Some(line) if line.starts_with("logic=proved") => Verdict::Proved,
-            Some(line) if line.starts_with("logic=not-proved") => {
-                faults.first().map_or(Verdict::Unfit, Fault::verdict)
-            }
+            Some(line) if line.starts_with("logic=not-proved") => match faults.first() {
+                Some(fault) => fault.verdict(),
+                None if text.lines().any(|line| line.contains(LEFT_OPEN)) => Verdict::Fact,
+                None => Verdict::Unfit,
+            },
             _ => Verdict::NotCompiled,
         };
         Log {
@@ -133,7 +138,7 @@ fn function(line: &str) -> Option<(String, Standing)> {
     let standing = match says {
         "proved" => Standing::Proved,
         says if says.contains("; it calls ") => Standing::Above,
-        says if says.starts_with("not proved") => Standing::Refused,
+        says if says.starts_with("not proved") || says.contains(LEFT_OPEN) => Standing::Refused,
         _ => return None,
     };
     Some((name.to_string(), standing))

@@ -43,6 +43,15 @@ fn a_theorem_falls_with_a_law_it_is_made_of() {
 }
 
 #[test]
+fn a_function_without_a_proof_file_is_refused_for_a_fact() {
+    let log = "fn clock::Clock::fresh: no proof: expected `fresh-spec` in /x/Proof.antt; `search` does not close `returns`
+logic=not-proved
+";
+    let log = Log::read(log, true);
+    assert_eq!((log.verdict, log.standing("Clock::fresh")), (Verdict::Fact, Some(Standing::Refused)));
+}
+
+#[test]
 fn the_last_line_decides() {
     assert_eq!(
         Log::read("logic=proved functions=3", true).verdict,
