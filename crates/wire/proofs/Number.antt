@@ -96,18 +96,6 @@ num-whole s h = ap num (take-all 8 s h)
 bytes-tail : (b : ℕ) (s : List ℕ) → Bytes (b ∷ s) → Bytes s
 bytes-tail b s h i = h (suc i)
 
-numFrom-lt : (s : List ℕ) (a i : ℕ) → Bytes s → a < 256 ^ i → numFrom a s < 256 ^ (i + length s)
-unfolding numFrom
-numFrom-lt [] a i h k = let e : i + 0 ≡ i = omega arith in rw e k
-numFrom-lt (b ∷ s) a i h k =
-    let e : i + suc (length s) ≡ i + 1 + length s = omega arith in
-    rw e (numFrom-lt s (a * 256 + b) (i + 1) (bytes-tail b s h) (num-wider i a b k (h 0)))
-
--- bytes stand for a number that fits them
-pub num-lt : (s : List ℕ) → Bytes s → num s < 256 ^ length s
-unfolding num
-num-lt s h = let e : 0 + length s ≡ length s = omega arith in rw e at (numFrom-lt s 0 0 h (omega arith))
-
 be-one-more : (i a b : ℕ) → b < 256 → be (i + 1) (a * 256 + b) ≡ be i a ++ (b ∷ [])
 unfolding be
 be-one-more i a b h =
@@ -126,3 +114,15 @@ be-numFrom (b ∷ s) a i h =
 pub be-num : BeNum
 unfolding num be
 be-num s h = let e : 0 + length s ≡ length s = omega arith in rw e at (be-numFrom s 0 0 h)
+
+-- ---- bytes stand for a number that fits them
+numFrom-lt : (s : List ℕ) (a i : ℕ) → Bytes s → a < 256 ^ i → numFrom a s < 256 ^ (i + length s)
+unfolding numFrom
+numFrom-lt [] a i h k = let e : i + 0 ≡ i = omega arith in rw e k
+numFrom-lt (b ∷ s) a i h k =
+    let e : i + suc (length s) ≡ i + 1 + length s = omega arith in
+    rw e (numFrom-lt s (a * 256 + b) (i + 1) (bytes-tail b s h) (num-wider i a b k (h 0)))
+
+pub num-lt : (s : List ℕ) → Bytes s → num s < 256 ^ length s
+unfolding num
+num-lt s h = let e : 0 + length s ≡ length s = omega arith in rw e at (numFrom-lt s 0 0 h (omega arith))
