@@ -16,30 +16,20 @@ use Rattle.entry.specs.Meaning.{KeysStrictlyOrdered, StampsStrictlyOrder
 pub keys-strictly-ordered : KeysStrictlyOrdered
 keys-strictly-ordered = record { irreflexive = bytesBelow-irrefl; transitive = bytesBelow-trans; total = bytesBelow-tied }
 
--- two stamps that are equal in phys and logical
-pub stamp-last : (a b : Stamp) → a .phys ≡ b .phys → a .logical ≡ b .logical → ltb (a .node) (b .node) ≡ stampBelow a b
-unfolding stampBelow
-stamp-last a b p l =
-    rw
-    (le-ltb (a .phys) (b .phys) (omega arith), eq-eqb (a .phys) (b .phys) p, le-ltb (a .logical) (b .logical) (omega arith), eq-eqb (a .logical) (b .logical) l)
-
-pub stampBelow-weak : (s t u : Stamp) → stampBelow s t ≡ false → stampBelow t u ≡ false → stampBelow s u ≡ false
+pub stampBelow-asym : (s t : Stamp) → stampBelow s t ≡ true → stampBelow t s ≡ false
 unfolding stampBelow lex
-stampBelow-weak s t u =
-    lex-weak (s .phys) (t .phys) (u .phys) _ _ _ (lex-weak (s .logical) (t .logical) (u .logical) _ _ _ (λ p q.
-    le-ltb (s .node) (u .node) (omega (arith, ltb-false (s .node) (t .node) p, ltb-false (t .node) (u .node) q))))
+stampBelow-asym s t =
+    lex-asym (s .phys) (t .phys) _ _ (lex-asym (s .logical) (t .logical) _ _ (λ p.
+    le-ltb (t .node) (s .node) (omega (arith, ltb-true (s .node) (t .node) p))))
+
+pub stampBelow-irrefl : (s : Stamp) → stampBelow s s ≡ false
+stampBelow-irrefl s = false-of (stampBelow s s) (λ h. clash h (stampBelow-asym s s h))
 
 pub stampBelow-trans : (s t u : Stamp) → stampBelow s t ≡ true → stampBelow t u ≡ true → stampBelow s u ≡ true
 unfolding stampBelow lex
 stampBelow-trans s t u =
     lex-trans (s .phys) (t .phys) (u .phys) _ _ _ (lex-trans (s .logical) (t .logical) (u .logical) _ _ _ (λ p q.
     lt-ltb (s .node) (u .node) (omega (arith, ltb-true (s .node) (t .node) p, ltb-true (t .node) (u .node) q))))
-
-pub stampBelow-asym : (s t : Stamp) → stampBelow s t ≡ true → stampBelow t s ≡ false
-unfolding stampBelow lex
-stampBelow-asym s t =
-    lex-asym (s .phys) (t .phys) _ _ (lex-asym (s .logical) (t .logical) _ _ (λ p.
-    le-ltb (t .node) (s .node) (omega (arith, ltb-true (s .node) (t .node) p))))
 
 pub stampBelow-tied : (s t : Stamp) → stampBelow s t ≡ false → stampBelow t s ≡ false → s ≡ t
 unfolding stampBelow lex
@@ -48,9 +38,6 @@ stampBelow-tied s t h k =
     let q = lex-tied (s .logical) (t .logical) _ _ (p .1) (p .2) in
     let r : s .node ≡ t .node = omega (arith, ltb-false (s .node) (t .node) (q .1), ltb-false (t .node) (s .node) (q .2)) in
     λ i. record { phys = p .0 i; logical = q .0 i; node = r i }
-
-pub stampBelow-irrefl : (s : Stamp) → stampBelow s s ≡ false
-stampBelow-irrefl s = false-of (stampBelow s s) (λ h. clash h (stampBelow-asym s s h))
 
 pub stamps-strictly-ordered : StampsStrictlyOrdered
 stamps-strictly-ordered = record { irreflexive = stampBelow-irrefl; transitive = stampBelow-trans; total = stampBelow-tied }
@@ -85,6 +72,19 @@ least-is-least s = false-of (stampBelow s least) (λ h. no (stamp-order-by-field
     no (inl p) = omega arith
     no (inr (inl p)) = omega arith
     no (inr (inr p)) = omega arith
+
+-- two stamps that are equal in phys and logical
+pub stamp-last : (a b : Stamp) → a .phys ≡ b .phys → a .logical ≡ b .logical → ltb (a .node) (b .node) ≡ stampBelow a b
+unfolding stampBelow
+stamp-last a b p l =
+    rw
+    (le-ltb (a .phys) (b .phys) (omega arith), eq-eqb (a .phys) (b .phys) p, le-ltb (a .logical) (b .logical) (omega arith), eq-eqb (a .logical) (b .logical) l)
+
+pub stampBelow-weak : (s t u : Stamp) → stampBelow s t ≡ false → stampBelow t u ≡ false → stampBelow s u ≡ false
+unfolding stampBelow lex
+stampBelow-weak s t u =
+    lex-weak (s .phys) (t .phys) (u .phys) _ _ _ (lex-weak (s .logical) (t .logical) (u .logical) _ _ _ (λ p q.
+    le-ltb (s .node) (u .node) (omega (arith, ltb-false (s .node) (t .node) p, ltb-false (t .node) (u .node) q))))
 
 -- ---- which of two entries wins: the laws that the store and its history use
 pub beats-asym : (d e : Entry) → beats d e ≡ true → beats e d ≡ false
