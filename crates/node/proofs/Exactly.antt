@@ -125,7 +125,7 @@ module _ (s : List ℕ) (c : Clock) (now : ℕ) (frame reply : List ℕ) where
 
     gets-reason : (v : List ℕ) (x : Finding) → FindingNumbered x → Reason (gets s c v x)
     unfolding gets
-    gets-reason v lookup.value n = tt
+    gets-reason v (lookup.value at len) n = tt
     gets-reason v lookup.deleted n = tt
     gets-reason v lookup.never n = tt
     gets-reason v (lookup.refused j) n = inl (other j (inl (n .1)))
