@@ -3,6 +3,7 @@ pub mod Members
 pub mod Seeking
 pub mod Shifts
 pub mod Splices
+pub mod Placing
 pub mod OnSound
 pub mod Keeping
 pub mod Looking

@@ -19,7 +19,7 @@ use Rattle.entry.specs.Refusal.{number}
 use Rattle.entry.specs.Key.{badKey}
 use Rattle.entry.specs.Entry.{Entry}
 use Rattle.image.specs.Layout.{vlenAt, valueAt, valueWidth, slotWidth, slotStart, valueStart}
-use Rattle.image.specs.Image.{valueIn, slotEntry, slotsOf, usedOf, entriesOf, sound}
+use Rattle.image.specs.Image.{valueIn, slotEntry, entriesOf, sound}
 use Rattle.image.specs.Slot.{slotAt}
 use Rattle.image.proofs.Compared.{distinct}
 use Rattle.image.proofs.ImageLaws.{entry-at, used-is, sound-is, sound-length}

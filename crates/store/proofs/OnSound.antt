@@ -1,5 +1,5 @@
 -- On a sound store the calls without the test of soundness are the calls themselves.
-use Prim.Native.Nat.{ℕ, suc, _≤_}
+use Prim.Native.Nat.{ℕ, suc, _+_, _≤_, _<_}
 use native.Mathlib.Omega.{arith}
 use mathlib.Core.Path.{_≡_, refl, sym, ap, ap₂, _∙_}
 use mathlib.Core.Logic.{inl, inr}
@@ -8,21 +8,23 @@ use mathlib.Core.List.{List, [], _∷_, List·Memᴰ·head as head, List·Memᴰ
 use mathlib.Core.Option.{Option, none, some}
 use lib.ListN.{length}
 use lib.Dec.{ltb, leb, eqb}
-use borrow.Author.Tests.{lt-ltb, le-ltb, leb-true, leb-false}
+use borrow.Author.Tests.{lt-ltb, le-ltb, leb-true, le-leb, leb-false}
 use Rattle.wire.proofs.Tests.{test}
 use Rattle.entry.specs.Entry.{Entry, Acceptable, beats, refusalOf}
-use Rattle.image.specs.Image.{image, slotsOf, usedOf, entriesOf, sound}
+use Rattle.image.specs.Layout.{slotStart}
+use Rattle.image.specs.Image.{image, slotBytes, slotsOf, usedOf, entriesOf, sound}
+use Rattle.image.specs.Slot.{hasSlot}
 use Rattle.image.proofs.SlotLaws.{Fit}
-use Rattle.image.proofs.ImageLaws.{Sound, sound-is, sound-image, sound-fits, slots-of-image, entries-of-image, used-is}
+use Rattle.image.proofs.ImageLaws.{Sound, sound-is, sound-image, sound-fits, sound-length, slots-of-image, entries-of-image, used-is}
 use Rattle.store.specs.Held.{_∈_, put, putAll, find, indexOf}
 use Rattle.store.specs.Answer.{refused, isRefused}
 use Rattle.store.specs.Lookup.{findingFor, lookupAnswer}
 use Rattle.store.specs.Offer.{told, offerAnswer, afterOffer}
-use Rattle.store.specs.Meaning.{Keeps}
-use Rattle.store.specs.Unchecked.{seek, seen, isHeld, lookupUnchecked, placeAnswer, afterPlace, placedAnswer, afterPlaced, afterAll, offerUnchecked, afterOfferUnchecked, UncheckedOnSound}
+use Rattle.store.specs.Meaning.{Keeps, UncheckedOnSound}
+use Rattle.store.specs.Unchecked.{seek, seen, isHeld, lookupUnchecked, placementFor, placement, toldOf, writtenAt, afterPlaced, afterAll, offerUnchecked, afterOfferUnchecked}
 use Rattle.store.proofs.HeldLaws.{Ascending, mem-put, put-ascending}
 use Rattle.store.proofs.Members.{accept-all, all-accepted, fit-all, all-fit, ascend, ascended}
-use Rattle.store.proofs.Seeking.{put-unseen, seen-there, seek-index, put-seen, seen-find, put-length, put-all-grows}
+use Rattle.store.proofs.Seeking.{seek-within, put-unseen, seen-there, seek-index, put-seen, seen-find, put-length, put-all-grows}
 use Rattle.store.proofs.Splices.{replaced as replaced-image, inserted as inserted-image}
 
 -- full by count is full by keys
@@ -50,28 +52,37 @@ module _ (s : List ℕ) (h : sound s ≡ true) where
     abbrev over : Bool
     over = ltb (slotsOf s) (length (put e es))
 
+    -- the bytes have each slot that is not past the last
+    has : (i : ℕ) → i < slotsOf s → hasSlot i s ≡ true
+    has i lt = le-leb (slotStart (i + 1)) (length s) (omega (arith, sound-length s k))
+
     -- by what is seen of its key
     by-sight : (o : Option Entry) → seen (e .key) es ≡ o
-        → (placeAnswer s e o ≡ cond over (refused 6) (told e o)) × (afterPlace s e o ≡ cond over s (image (slotsOf s) (put e es)))
-    unfolding placeAnswer afterPlace told isHeld
+        → (toldOf (placementFor s e o) ≡ cond over (refused 6) (told e o))
+        × (writtenAt (placementFor s e o) (slotBytes e) s ≡ cond over s (image (slotsOf s) (put e es)))
+    unfolding placementFor told isHeld
     by-sight none q =
-        let p = put-unseen e es q in
         let n : length (put e es) ≡ suc (usedOf s) = put-length e es ordered ∙ rw (q, used-is s) in
         let f : over ≡ leb (slotsOf s) (usedOf s) = ap (ltb (slotsOf s)) n ∙ sym (full (slotsOf s) (usedOf s)) in
         rw f (elim (test (leb (slotsOf s) (usedOf s))) [
           | inl t ↦ rw t (refl, refl)
-          | inr t ↦ rw t (refl, inserted-image s k (seek (e .key) es) (omega (arith, p .within, used-is s)) (leb-false _ _ t) e ∙ ap (image (slotsOf s)) (sym (p .is)))
+          | inr t ↦
+              let room = leb-false (slotsOf s) (usedOf s) t in
+              let put-in = inserted-image s k (seek (e .key) es) (omega (arith, seek-within (e .key) es, used-is s)) room e in
+              rw (t, has (usedOf s) room) (refl, put-in ∙ ap (image (slotsOf s)) (sym (put-unseen e es q)))
         ])
     by-sight (some g) q =
         let p = seen-there (e .key) es g q in
+        let lt : seek (e .key) es < usedOf s = omega (arith, p .within, used-is s) in
         let n : length (put e es) ≡ length es = put-length e es ordered ∙ rw q in
         let f : over ≡ false = le-ltb (slotsOf s) (length (put e es)) (omega (arith, held-fits)) in
         rw (f, put-seen e es g q) (elim (test (beats e g)) [
-          | inl t ↦ rw t (refl, replaced-image s k (seek (e .key) es) (omega (arith, p .within, used-is s)) g e (p .there) (omega (arith, p .within, used-is s)))
+          | inl t ↦ rw (t, has (seek (e .key) es) (omega (arith, k .room))) (refl, replaced-image s k (seek (e .key) es) (omega arith) g (p .there) e lt)
           | inr t ↦ rw t (refl, k .bytes)
         ])
 
-    pub placed : (placedAnswer s e ≡ cond over (refused 6) (told e (find (e .key) es))) × (afterPlaced s e ≡ cond over s (image (slotsOf s) (put e es)))
+    pub placed : (toldOf (placement s e) ≡ cond over (refused 6) (told e (find (e .key) es))) × (afterPlaced s e ≡ cond over s (image (slotsOf s) (put e es)))
+    unfolding afterPlaced
     placed =
         let b = by-sight (seen (e .key) es) refl in
         (b .0 ∙ ap (λ (o : Option Entry). cond over (refused 6) (told e o)) (seen-find (e .key) es ordered), b .1)

@@ -53,21 +53,23 @@ module _ (k : List ℕ) (es : List Entry) (i : ℕ) (s : Seeking k es i) (small 
         let p = came-above k (h .key) (sym oe ∙ b) in
         record { place = rw (add-one i) (omega (arith, rw (split, p .0, p .1) at (s .place))); known = rw (add-one i) (rw (split, p .0, p .1) at (s .known)) }
 
--- ---- a key that is not seen: the entry is put in at its place
-pub record Unseen (e : Entry) (es : List Entry) : Type 0 where
-  pub is : put e es ≡ take (seek (e .key) es) es ++ (e ∷ drop (seek (e .key) es) es)
-  pub within : seek (e .key) es ≤ length es
+pub seek-within : (k : List ℕ) (es : List Entry) → seek k es ≤ length es
+unfolding seek
+seek-within k [] = omega arith
+seek-within k (h ∷ hs) = elim (test (keyBelow k (h .key))) [
+  | inl p ↦ rw p (omega arith)
+  | inr p ↦ elim (test (sameBytes k (h .key))) [ inl q ↦ rw (p, q) (omega arith) | inr q ↦ rw (p, q) (omega (arith, seek-within k hs)) ]
+]
 
-pub put-unseen : (e : Entry) (es : List Entry) → seen (e .key) es ≡ none → Unseen e es
+-- ---- a key that is not seen: the entry is put in at its place
+pub put-unseen : (e : Entry) (es : List Entry) → seen (e .key) es ≡ none → put e es ≡ take (seek (e .key) es) es ++ (e ∷ drop (seek (e .key) es) es)
 unfolding put seek seen
-put-unseen e [] n = record { is = refl; within = omega arith }
+put-unseen e [] n = refl
 put-unseen e (h ∷ hs) n = elim (test (keyBelow (e .key) (h .key))) [
-  | inl p ↦ record { is = rw p; within = rw p (omega arith) }
+  | inl p ↦ rw p
   | inr p ↦ elim (test (sameBytes (e .key) (h .key))) [
     | inl q ↦ absurd (Option·none-ne-some h (sym (rw (p, q) at n)))
-    | inr q ↦
-        let r = put-unseen e hs (rw (p, q) at n) in
-        record { is = rw (p, q) (ap (λ (l : List Entry). h ∷ l) (r .is)); within = rw (p, q) (omega (arith, r .within)) }
+    | inr q ↦ rw (p, q) (ap (λ (l : List Entry). h ∷ l) (put-unseen e hs (rw (p, q) at n)))
   ]
 ]
 

@@ -1,11 +1,11 @@
 -- Bytes moved up, from the last.
-use mathlib.Core.Path.{_≡_, sym, ap, ap₂, _∙_}
+use mathlib.Core.Path.{_≡_, sym, ap, _∙_}
 use Prim.Native.Nat.{ℕ, zero, suc, _+_, _-_, _≤_, _<_}
 use mathlib.Core.List.{List, [], _∷_, _++_, append-nil}
 use native.Mathlib.Omega.{arith}
 use native.Mathlib.Nat.{not-suc-le-zero}
 use lib.ListN.{length, take, drop, getD, set, List·getD-append, drop-of-length-le}
-use lib.Seq.{drop-cons, append-snoc, take-suc, set-at, length-take-le, take-all, drop-at, getD-take}
+use lib.Seq.{drop-cons, append-snoc, take-suc, set-at, length-take-le, take-all, getD-take}
 
 -- n bytes are moved up by w: at i, those from i on have been
 module _ (s₀ : List ℕ) (w n : ℕ) (fits : n + w ≡ length s₀) where
@@ -34,7 +34,3 @@ module _ (s₀ : List ℕ) (w n : ℕ) (fits : n + w ≡ length s₀) where
   shift-step s (suc j) h k e =
       let d : suc j - 1 ≡ j = omega arith in
       rw (d, e) (shift-suc j k)
-
--- a slot written at the front of what was moved up
-pub shifted : (w n : ℕ) (s m ys xs : List ℕ) → w ≤ length s → m ≡ take w s ++ take n s → ys ≡ xs → ys ++ drop w m ≡ xs ++ take n s
-shifted w n s m ys xs h e f = ap₂ (λ (a b : List ℕ). a ++ b) f (ap (drop w) e ∙ drop-at (take w s) (take n s) w (length-take-le w s h))

@@ -4,13 +4,15 @@ use native.Mathlib.Omega.{arith}
 use native.Mathlib.Numerals.{add-one}
 use mathlib.Core.Path.{_≡_, sym, ap, ap₂, _∙_}
 use mathlib.Core.Bool.{Bool, true, false, cond}
-use mathlib.Core.List.{List, [], _∷_, _++_, append-nil}
+use mathlib.Core.List.{List, _∷_, _++_, append-nil}
 use mathlib.Core.Option.{Option, none, some}
 use lib.ListN.{length, drop, drop-of-length-le}
 use lib.Dec.{eqb}
 use borrow.Author.Tests.{eq-eqb, ne-eqb, lt-ltb, le-ltb, le-leb, lt-leb}
 use Rattle.wire.specs.Fill.{zeros}
+use Rattle.wire.proofs.Fill.{length-field}
 use Rattle.entry.specs.declared.Refusal.{Refusal}
+use Rattle.entry.specs.declared.Refusal.the-variants.{BadStore, StoreFull}
 use Rattle.entry.specs.declared.Acceptance.{Acceptance}
 use Rattle.entry.specs.declared.Acceptance.the-variants as acceptance
 use Rattle.entry.specs.Refusal.{number}
@@ -20,18 +22,22 @@ use Rattle.entry.specs.Entry.{Entry, beats, refusalOf}
 use Rattle.entry.proofs.Numbers.{number-not-0}
 use Rattle.image.specs.Layout.{valueStart, slotWidth, mostSlots, slotStart}
 use Rattle.image.specs.Image.{image, header, slots, slotEntry, flagIn, valueIn, slotsOf, usedOf, entriesOf, sound}
-use Rattle.image.specs.Slot.{slotAt}
+use Rattle.image.specs.Slot.{slotAt, hasSlot}
 use Rattle.image.proofs.ImageLaws.{entry-at, used-is}
 use Rattle.store.specs.Held.{putAll}
-use Rattle.store.specs.Answer.{Answer, stored, replaced, kept, merged, refused, isRefused}
+use Rattle.store.specs.Answer.{Answer, merged, refused, isRefused}
 use Rattle.store.specs.Create.{createRefusal, freshStore, afterCreate}
 use Rattle.store.specs.Lookup.{value, deleted, never, findingFor, lookupAnswer}
 use Rattle.store.specs.Lookup as looking
 use Rattle.store.specs.Offer.{offerAnswer, afterOffer}
 use Rattle.store.specs.Merge.{mergeAnswer, afterMerge}
-use Rattle.store.specs.Unchecked.{seek, seen, isHeld, Placed, lookupUnchecked, replaceAt, insertAt, placeAnswer, afterPlace, placedAnswer, afterPlaced, afterAll, countNew, offerUnchecked, afterOfferUnchecked}
+use Rattle.store.specs.declared.Placement.{Placement}
+use Rattle.store.specs.declared.Placement.the-variants.{Insert, Replace, Kept, Refused}
+use Rattle.store.specs.Unchecked.{seek, seen, isHeld, Placed, lookupUnchecked, replaceAt, insertAt, placementFor, placement, toldOf, writtenAt, afterPlaced, afterAll, countNew, offerUnchecked, afterOfferUnchecked}
 use Rattle.store.proofs.HeldLaws.{none-of, some-of}
 use Rattle.store.proofs.Seeking.{seen-there, length-put-all}
+use Rattle.store.proofs.Splices.{opened}
+use Rattle.store.proofs.Placing.{placement-fits}
 use Rattle.store.proofs.OnSound.{ordered, all-placed, accepts-held, fits-held}
 
 -- ---- a new store
@@ -110,30 +116,56 @@ module _ (s k : List ℕ) where
 -- ---- an entry placed
 module _ (s : List ℕ) (e : Entry) (at : ℕ) (held : Bool) (p : Placed (e .key) (entriesOf s) at held) where
   module _ (t : held ≡ true) where
-    pub place-replaced : beats e (slotEntry (slotAt at s)) ≡ true → (u : List ℕ) → u ≡ replaceAt at e s → (replaced ≡ placedAnswer s e) × (u ≡ afterPlaced s e)
-    unfolding placeAnswer afterPlace
-    place-replaced b u ue =
-        let q = is-seen s (e .key) at held p t in
-        (sym (rw (q, b)), ue ∙ ap (λ (i : ℕ). replaceAt i e s) (p .place) ∙ sym (rw (q, b)))
+    pub place-kept : beats e (slotEntry (slotAt at s)) ≡ false → Kept ≡ placement s e
+    unfolding placementFor
+    place-kept b = sym (rw (is-seen s (e .key) at held p t, b))
 
-    pub place-kept : beats e (slotEntry (slotAt at s)) ≡ false → (kept ≡ placedAnswer s e) × (s ≡ afterPlaced s e)
-    unfolding placeAnswer afterPlace
-    place-kept b = let q = is-seen s (e .key) at held p t in (sym (rw (q, b)), sym (rw (q, b)))
+    module _ (b : beats e (slotEntry (slotAt at s)) ≡ true) where
+      here : (r : Bool) → hasSlot at s ≡ r → hasSlot (seek (e .key) (entriesOf s)) s ≡ r
+      here r c = ap (λ (i : ℕ). hasSlot i s) (sym (p .place)) ∙ c
+
+      pub place-cut : hasSlot at s ≡ false → Refused BadStore ≡ placement s e
+      unfolding placementFor
+      place-cut c = sym (rw (is-seen s (e .key) at held p t, b, here false c))
+
+      pub place-over : hasSlot at s ≡ true → Replace at ≡ placement s e
+      unfolding placementFor
+      place-over c = ap {B = Placement} Replace (p .place) ∙ sym (rw (is-seen s (e .key) at held p t, b, here true c))
 
   module _ (f : held ≡ false) where
-    pub place-full : slotsOf s ≤ usedOf s → (refused 6 ≡ placedAnswer s e) × (s ≡ afterPlaced s e)
-    unfolding placeAnswer afterPlace
-    place-full h =
-        let q = not-seen s (e .key) at held p f in
-        let l = le-leb (slotsOf s) (usedOf s) h in
-        (sym (rw (q, l)), sym (rw (q, l)))
+    pub place-full : slotsOf s ≤ usedOf s → Refused StoreFull ≡ placement s e
+    unfolding placementFor
+    place-full h = sym (rw (not-seen s (e .key) at held p f, le-leb (slotsOf s) (usedOf s) h))
 
-    pub place-stored : usedOf s < slotsOf s → (u : List ℕ) → u ≡ insertAt at e s → (stored ≡ placedAnswer s e) × (u ≡ afterPlaced s e)
-    unfolding placeAnswer afterPlace
-    place-stored h u ue =
-        let q = not-seen s (e .key) at held p f in
-        let l = lt-leb (slotsOf s) (usedOf s) h in
-        (sym (rw (q, l)), ue ∙ ap (λ (i : ℕ). insertAt i e s) (p .place) ∙ sym (rw (q, l)))
+    module _ (room : usedOf s < slotsOf s) where
+      pub place-short : hasSlot (usedOf s) s ≡ false → Refused BadStore ≡ placement s e
+      unfolding placementFor
+      place-short c = sym (rw (not-seen s (e .key) at held p f, lt-leb (slotsOf s) (usedOf s) room, c))
+
+      pub place-new : hasSlot (usedOf s) s ≡ true → Insert at ≡ placement s e
+      unfolding placementFor
+      place-new c = ap {B = Placement} Insert (p .place) ∙ sym (rw (not-seen s (e .key) at held p f, lt-leb (slotsOf s) (usedOf s) room, c))
+
+-- the bytes w of its slot written where a placement p says
+module _ (s : List ℕ) (e : Entry) (p : Placement) (k : p ≡ placement s e) where
+  pub insert-fits : (i : ℕ) → p ≡ Insert i → (i ≤ usedOf s) × (slotStart (usedOf s + 1) ≤ length s)
+  insert-fits i h = rw (sym k ∙ h) at (placement-fits s e)
+
+  pub replace-fits : (i : ℕ) → p ≡ Replace i → slotStart (i + 1) ≤ length s
+  replace-fits i h = rw (sym k ∙ h) at (placement-fits s e)
+
+  pub told-as : (q : Placement) → p ≡ q → toldOf q ≡ toldOf (placement s e)
+  told-as q h = ap toldOf (sym h ∙ k)
+
+  pub left-as : (q : Placement) → p ≡ q → (w t : List ℕ) → t ≡ writtenAt q w s → t ≡ writtenAt (placement s e) w s
+  left-as q h w t te = te ∙ ap (λ (x : Placement). writtenAt x w s) (sym h ∙ k)
+
+  pub inserted-as : (i : ℕ) → p ≡ Insert i → (w t u : List ℕ) → t ≡ insertAt i (slotAt i s) s → u ≡ replaceAt i w t → u ≡ writtenAt (placement s e) w s
+  unfolding slotAt
+  inserted-as i h w t u te ue =
+      let f = insert-fits i h in
+      let l : length (slotAt i s) ≡ slotWidth = length-field (slotStart i) slotWidth s (omega (arith, f .0, f .1)) in
+      left-as (Insert i) h w u (ue ∙ ap (replaceAt i w) te ∙ opened i s (f .0) (f .1) (slotAt i s) w l)
 
 -- ---- an entry offered
 module _ (s : List ℕ) (e : Entry) where
@@ -145,7 +177,7 @@ module _ (s : List ℕ) (e : Entry) where
         let q : eqb (refusalOf e) 0 ≡ false = rw n (number-not-0 r) in
         (sym (rw (q, n)), sym (rw q))
 
-    pub offer-placed : v ≡ acceptance.Acceptable → (a : Answer) (t : List ℕ) → a ≡ placedAnswer s e → t ≡ afterPlaced s e → (a ≡ offerUnchecked s e) × (t ≡ afterOfferUnchecked s e)
+    pub offer-placed : v ≡ acceptance.Acceptable → (a : Answer) (t : List ℕ) → a ≡ toldOf (placement s e) → t ≡ afterPlaced s e → (a ≡ offerUnchecked s e) × (t ≡ afterOfferUnchecked s e)
     unfolding offerUnchecked afterOfferUnchecked
     offer-placed h a t ae te =
         let q = eq-eqb (refusalOf e) 0 (sym ve ∙ ap refusalNumber h) in

@@ -1,5 +1,5 @@
 -- A new store.
-use Prim.Native.Nat.{ℕ, _+_, _*_}
+use Prim.Native.Nat.{ℕ}
 use mathlib.Core.Bool.{cond, not, _||_}
 use mathlib.Core.List.{List, []}
 use lib.ListN.{length}

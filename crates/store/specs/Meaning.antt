@@ -9,13 +9,15 @@ use lib.ListN.{length}
 use Rattle.wire.specs.Fill.{field}
 use Rattle.entry.specs.Entry.{Entry}
 use Rattle.image.specs.Layout.{mostSlots}
-use Rattle.image.specs.Image.{slotsOf, entriesOf, sound}
+use Rattle.image.specs.Image.{slotBytes, slotsOf, entriesOf, sound}
+use Rattle.image.specs.Slot.{slotAt}
 use Rattle.store.specs.Held.{put, putAll, indexOf}
 use Rattle.store.specs.Answer.{stored, replaced, kept, isRefused}
 use Rattle.store.specs.Create.{freshStore}
 use Rattle.store.specs.Lookup.{value, findingFor, lookupAnswer, valuePart}
 use Rattle.store.specs.Offer.{offerAnswer, afterOffer}
 use Rattle.store.specs.Merge.{mergeAnswer, afterMerge}
+use Rattle.store.specs.Unchecked.{seek, lookupUnchecked, offerUnchecked, afterOfferUnchecked}
 
 -- the logical count and the node id fit their fields, as those of every stamp that `offer` can be given do: they are a u16 and a u8
 pub record Representable (e : Entry) : Type 0 where
@@ -28,6 +30,7 @@ pub record Keeps (s : List ℕ) (es : List Entry) (t : List ℕ) : Type 0 where
   pub slots : slotsOf t ≡ slotsOf s
   pub holds : entriesOf t ≡ es
 
+-- ---- what the calls keep
 -- a fresh store is sound and holds nothing
 abbrev pub FreshKeeps : Type 0
 FreshKeeps = (c : ℕ) → 1 ≤ c → c ≤ mostSlots → (sound (freshStore c) ≡ true) × (slotsOf (freshStore c) ≡ c) × (entriesOf (freshStore c) ≡ [])
@@ -46,11 +49,12 @@ MergeKeeps = (r g : List ℕ) → sound r ≡ true → sound g ≡ true
 abbrev pub KeptUnchanged : Type 0
 KeptUnchanged = (s : List ℕ) (e : Entry) → offerAnswer s e ≡ kept → afterOffer s e ≡ s
 
--- the place that a lookup gives lies in the store, and the value stands there
+-- ---- a lookup
+-- the place that it gives lies in the store, and the value stands there
 abbrev pub ValueStands : Type 0
 ValueStands = (s k : List ℕ) (at len : ℕ) → lookupAnswer s k ≡ value at len → (at + len ≤ length s) × (field at len s ≡ valuePart s k)
 
--- a lookup of its key in a store t finds an entry: DELETED if it is a tombstone, else VALUE with its value's place; and its value
+-- it finds an entry of its key in a store t: DELETED if it is a tombstone, else VALUE with its value's place; and its value
 pub record Finds (t : List ℕ) (e : Entry) : Type 0 where
   pub told : lookupAnswer t (e .key) ≡ findingFor (indexOf (e .key) (entriesOf t)) (some e)
   pub part : valuePart t (e .key) ≡ e .value
@@ -59,3 +63,22 @@ pub record Finds (t : List ℕ) (e : Entry) : Type 0 where
 abbrev pub FoundAfterOffer : Type 0
 FoundAfterOffer = (s : List ℕ) (e : Entry) → Representable e → (offerAnswer s e ≡ stored) ⊎ (offerAnswer s e ≡ replaced)
     → Finds (afterOffer s e) e
+
+-- ---- the calls without the test of soundness
+-- on a sound store they are the calls themselves
+pub record Unchecked (s : List ℕ) : Type 0 where
+  pub lookup : (k : List ℕ) → lookupUnchecked s k ≡ lookupAnswer s k
+  pub offer : (e : Entry) → offerUnchecked s e ≡ offerAnswer s e
+  pub after : (e : Entry) → afterOfferUnchecked s e ≡ afterOffer s e
+
+abbrev pub UncheckedOnSound : Type 0
+UncheckedOnSound = (s : List ℕ) → sound s ≡ true → Unchecked s
+
+-- on any bytes an entry that is told as stored, or as replacing another, stands in its slot, whole
+abbrev pub StoredIsThere : Type 0
+StoredIsThere = (s : List ℕ) (e : Entry) → (offerUnchecked s e ≡ stored) ⊎ (offerUnchecked s e ≡ replaced)
+    → slotAt (seek (e .key) (entriesOf s)) (afterOfferUnchecked s e) ≡ slotBytes e
+
+-- and any other answer changes no byte
+abbrev pub UnstoredUnchanged : Type 0
+UnstoredUnchanged = (s : List ℕ) (e : Entry) → (offerUnchecked s e ≡ stored → ⊥) → (offerUnchecked s e ≡ replaced → ⊥) → afterOfferUnchecked s e ≡ s

@@ -1,23 +1,28 @@
--- The calls without the test of soundness, on any bytes. On a sound store they are the calls themselves (`Unchecked`, below).
+-- The calls without the test of soundness, on any bytes: they follow the slots as they stand. Meaning says what that is worth:
+-- on a sound store they are the calls themselves, and on any bytes an offer is told as stored or replaced only where it was.
 use mathlib.Core.Path.{_≡_}
 use Prim.Native.Nat.{ℕ, zero, suc, _+_, _-_, _*_, _<_}
-use mathlib.Core.Bool.{Bool, true, false, cond, not, _&&_}
+use mathlib.Core.Bool.{Bool, true, false, cond, not}
 use mathlib.Core.List.{List, [], _∷_, _++_}
 use mathlib.Core.Option.{Option, none, some}
-use lib.ListN.{length, take, drop}
+use lib.ListN.{take, drop}
 use lib.Dec.{leb, eqb}
 use Rattle.wire.specs.Number.{be}
 use Rattle.wire.specs.Fill.{field}
 use Rattle.wire.specs.Order.{sameBytes}
+use Rattle.entry.specs.declared.Refusal.the-variants.{BadStore, StoreFull}
+use Rattle.entry.specs.Refusal.{number}
 use Rattle.entry.specs.Key.{badKey}
 use Rattle.entry.specs.Order.{keyBelow}
 use Rattle.entry.specs.Entry.{Entry, beats, refusalOf}
 use Rattle.image.specs.Layout.{usedAt, widthAt, slotWidth, slotStart}
-use Rattle.image.specs.Image.{slotBytes, slotsOf, usedOf, entriesOf, sound}
+use Rattle.image.specs.Image.{slotBytes, slotsOf, usedOf, entriesOf}
+use Rattle.image.specs.Slot.{hasSlot}
+use Rattle.store.specs.declared.Placement.{Placement}
+use Rattle.store.specs.declared.Placement.the-variants.{Insert, Replace, Kept, Refused}
 use Rattle.store.specs.Answer.{Answer, stored, replaced, kept, refused}
-use Rattle.store.specs.Lookup.{Finding, findingFor, lookupAnswer}
+use Rattle.store.specs.Lookup.{Finding, findingFor}
 use Rattle.store.specs.Lookup as looking
-use Rattle.store.specs.Offer.{offerAnswer, afterOffer}
 
 -- ---- where a key stands
 
@@ -52,32 +57,46 @@ lookupUnchecked store key = cond (badKey key) (looking.refused 1) (findingFor (s
 unfoldable pub splice : ℕ → ℕ → List ℕ → List ℕ → List ℕ
 splice a e w s = take a s ++ w ++ drop e s
 
--- an entry written over slot i; bytes that have no slot i stay
-unfoldable pub replaceAt : ℕ → Entry → List ℕ → List ℕ
-replaceAt i e s = cond (leb (slotStart (i + 1)) (length s)) (splice (slotStart i) (slotStart (i + 1)) (slotBytes e) s) s
+-- the bytes w of a slot written over slot i
+unfoldable pub replaceAt : ℕ → List ℕ → List ℕ → List ℕ
+replaceAt i w s = splice (slotStart i) (slotStart (i + 1)) w s
 
--- the used slots from i on moved up by one, an entry written before them, and U raised; bytes that have no room for it stay
-unfoldable pub insertAt : ℕ → Entry → List ℕ → List ℕ
-insertAt i e s =
-    cond (leb i (usedOf s) && leb (slotStart (usedOf s + 1)) (length s))
-    (splice usedAt widthAt (be 2 (usedOf s + 1))
-    (splice (slotStart i) (slotStart (usedOf s + 1)) (slotBytes e ++ field (slotStart i) (slotWidth * (usedOf s - i)) s) s))
-    s
+-- U raised, the used slots from i on moved up by one, and the bytes w of a slot written before them
+unfoldable pub insertAt : ℕ → List ℕ → List ℕ → List ℕ
+insertAt i w s =
+    splice (slotStart i) (slotStart (usedOf s + 1)) (w ++ field (slotStart i) (slotWidth * (usedOf s - i)) s)
+    (splice usedAt widthAt (be 2 (usedOf s + 1)) s)
 
 -- ---- offering an acceptable entry
-unfoldable pub placeAnswer : List ℕ → Entry → Option Entry → Answer
-placeAnswer s e none = cond (leb (slotsOf s) (usedOf s)) (refused 6) stored
-placeAnswer s e (some h) = cond (beats e h) replaced kept
 
-unfoldable pub afterPlace : List ℕ → Entry → Option Entry → List ℕ
-afterPlace s e none = cond (leb (slotsOf s) (usedOf s)) s (insertAt (seek (e .key) (entriesOf s)) e s)
-afterPlace s e (some h) = cond (beats e h) (replaceAt (seek (e .key) (entriesOf s)) e s) s
+-- where it goes, by what is seen of its key; BAD_STORE where the bytes do not have the slot that is to be written
+unfoldable pub placementFor : List ℕ → Entry → Option Entry → Placement
+placementFor s e none =
+    cond (leb (slotsOf s) (usedOf s)) (Refused StoreFull)
+    (cond (hasSlot (usedOf s) s) (Insert (seek (e .key) (entriesOf s))) (Refused BadStore))
+placementFor s e (some h) =
+    cond (not (beats e h)) Kept
+    (cond (hasSlot (seek (e .key) (entriesOf s)) s) (Replace (seek (e .key) (entriesOf s))) (Refused BadStore))
 
-abbrev pub placedAnswer : List ℕ → Entry → Answer
-placedAnswer s e = placeAnswer s e (seen (e .key) (entriesOf s))
+abbrev pub placement : List ℕ → Entry → Placement
+placement s e = placementFor s e (seen (e .key) (entriesOf s))
 
-abbrev pub afterPlaced : List ℕ → Entry → List ℕ
-afterPlaced s e = afterPlace s e (seen (e .key) (entriesOf s))
+-- what is told of it
+abbrev pub toldOf : Placement → Answer
+toldOf (Insert i) = stored
+toldOf (Replace i) = replaced
+toldOf Kept = kept
+toldOf (Refused r) = refused (number r)
+
+-- what is left, where w are the bytes of its slot
+abbrev pub writtenAt : Placement → List ℕ → List ℕ → List ℕ
+writtenAt (Insert i) w s = insertAt i w s
+writtenAt (Replace i) w s = replaceAt i w s
+writtenAt Kept w s = s
+writtenAt (Refused r) w s = s
+
+unfoldable pub afterPlaced : List ℕ → Entry → List ℕ
+afterPlaced s e = writtenAt (placement s e) (slotBytes e) s
 
 -- each of some entries in turn
 unfoldable pub afterAll : List Entry → List ℕ → List ℕ
@@ -91,16 +110,7 @@ countNew hs (e ∷ es) = cond (isHeld (seen (e .key) hs)) (countNew hs es) (suc 
 
 -- ---- offering an entry: 9, 1, 2, 17, then 6
 unfoldable pub offerUnchecked : List ℕ → Entry → Answer
-offerUnchecked s e = cond (not (eqb (refusalOf e) 0)) (refused (refusalOf e)) (placedAnswer s e)
+offerUnchecked s e = cond (not (eqb (refusalOf e) 0)) (refused (refusalOf e)) (toldOf (placement s e))
 
 unfoldable pub afterOfferUnchecked : List ℕ → Entry → List ℕ
 afterOfferUnchecked s e = cond (not (eqb (refusalOf e) 0)) s (afterPlaced s e)
-
--- ---- on a sound store
-pub record Unchecked (s : List ℕ) : Type 0 where
-  pub lookup : (k : List ℕ) → lookupUnchecked s k ≡ lookupAnswer s k
-  pub offer : (e : Entry) → offerUnchecked s e ≡ offerAnswer s e
-  pub after : (e : Entry) → afterOfferUnchecked s e ≡ afterOffer s e
-
-abbrev pub UncheckedOnSound : Type 0
-UncheckedOnSound = (s : List ℕ) → sound s ≡ true → Unchecked s

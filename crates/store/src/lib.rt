@@ -7,6 +7,7 @@ use entry::Stamp;
 use entry::TOMBSTONE;
 use entry::is_acceptable_key;
 use entry::judge;
+use image::has_slot;
 use image::is_sound;
 use image::layout::HEADER_WIDTH;
 use image::layout::MAX_SLOTS;
@@ -23,19 +24,22 @@ use image::used_count;
 use wire::Comparison;
 use wire::compare;
 use wire::put_be;
-use write::insert;
-use write::replace;
+use write::open_slot;
+use write::write_entry;
+use write::write_slot;
 ghost use mathlib.Core.Path.{_≡_};
-ghost use mathlib.Core.Bool.{cond};
+ghost use mathlib.Core.Bool.{true, cond};
+ghost use lib.ListN.{length};
 ghost use Rattle.entry.specs.Entry.{entryOf, beats};
-ghost use Rattle.image.specs.Image.{slotEntry, entriesOf};
+ghost use Rattle.image.specs.Layout.{slotWidth};
+ghost use Rattle.image.specs.Image.{slotEntry, entriesOf, sound};
 ghost use Rattle.store.specs.Answer.{answerOf, mergeAnswerOf};
 ghost use Rattle.store.specs.Create.{createdNumber, createRefusal, afterCreate};
 ghost use Rattle.store.specs.Lookup.{findingOf, lookupAnswer, valuePart};
 ghost use Rattle.store.specs.Offer.{offerAnswer, afterOffer};
 ghost use Rattle.store.specs.Merge.{mergeAnswer, afterMerge};
 ghost use Rattle.store.specs.Overtaken.{overtakenUnchecked};
-ghost use Rattle.store.specs.Unchecked.{Placed, placedAnswer, afterPlaced, afterAll, countNew, lookupUnchecked, offerUnchecked, afterOfferUnchecked};
+ghost use Rattle.store.specs.Unchecked.{Placed, placement, toldOf, writtenAt, afterPlaced, afterAll, countNew, lookupUnchecked, offerUnchecked, afterOfferUnchecked};
 
 // What became of a buffer that was to be a new store.
 pub enum Created {
@@ -70,6 +74,17 @@ pub enum Merged {
 struct Place {
     at: usize,
     held: bool,
+}
+
+// Where an entry goes in a store.
+enum Placement {
+    // Into a new slot before this one.
+    Insert(usize),
+    // Over this slot.
+    Replace(usize),
+    // Nowhere, since the held one stays.
+    Kept,
+    Refused(Refusal),
 }
 
 // Makes a buffer a store of `slots` slots that holds nothing.
@@ -109,7 +124,10 @@ fn seek(store: &[u8], key: &[u8]) -> Place
     Place { at: i, held: false }
 }
 
-// What a store that is known to be sound says of a key.
+// What a store says of a key, with no test of soundness: for a caller that has tested it, and no
+// entry point of the module. On a sound store it is `lookup`. On other bytes it follows the slots
+// as they stand: it may answer VALUE, DELETED or NEVER of any key, with a place past the end where
+// a slot is cut.
 pub fn lookup_unchecked(store: &[u8], key: &[u8]) -> Looked
     ensures { λ r. ⌜ findingOf r ≡ lookupUnchecked (now (store .entry)) (now (key .entry)) ⌝ }
 {
@@ -159,28 +177,57 @@ fn beats_slot(slot: &[u8], key: &[u8], value: &[u8], flag: u8, stamp: Stamp) -> 
     slot_stamp(slot).is_below(stamp)
 }
 
-// Offers an acceptable entry to a store.
-fn place_entry(store: &mut [u8], key: &[u8], value: &[u8], flag: u8, stamp: Stamp) -> Offered
-    ensures told { λ r. ⌜ answerOf r ≡ placedAnswer (now (store .entry)) (entryOf (now (key .entry)) (now (value .entry)) flag stamp) ⌝ }
-    ensures left { λ _. ⌜ now (store .exit) ≡ afterPlaced (now (store .entry)) (entryOf (now (key .entry)) (now (value .entry)) flag stamp) ⌝ }
+// Where an acceptable entry goes in a store.
+fn placement_of(store: &[u8], key: &[u8], value: &[u8], flag: u8, stamp: Stamp) -> Placement
+    ensures { λ r. ⌜ r ≡ placement (now (store .entry)) (entryOf (now (key .entry)) (now (value .entry)) flag stamp) ⌝ }
 {
     let place = seek(store, key);
     let at = place.at;
     if place.held {
-        if beats_slot(slot(store, at), key, value, flag, stamp) {
-            replace(store, at, key, value, flag, stamp);
-            return Offered::Replaced;
+        if !beats_slot(slot(store, at), key, value, flag, stamp) {
+            return Placement::Kept;
         }
-        return Offered::Kept;
+        if !has_slot(store, at) {
+            return Placement::Refused(Refusal::BadStore);
+        }
+        return Placement::Replace(at);
     }
-    if slot_count(store) <= used_count(store) {
-        return Offered::Refused(Refusal::StoreFull);
+    let used = used_count(store);
+    if slot_count(store) <= used {
+        return Placement::Refused(Refusal::StoreFull);
     }
-    insert(store, at, key, value, flag, stamp);
-    Offered::Stored
+    if !has_slot(store, used) {
+        return Placement::Refused(Refusal::BadStore);
+    }
+    Placement::Insert(at)
 }
 
-// Offers an entry to a store that is known to be sound.
+// Offers an acceptable entry to a store.
+fn place_entry(store: &mut [u8], key: &[u8], value: &[u8], flag: u8, stamp: Stamp) -> Offered
+    ensures told { λ r. ⌜ answerOf r ≡ toldOf (placement (now (store .entry)) (entryOf (now (key .entry)) (now (value .entry)) flag stamp)) ⌝ }
+    ensures left { λ _. ⌜ now (store .exit) ≡ afterPlaced (now (store .entry)) (entryOf (now (key .entry)) (now (value .entry)) flag stamp) ⌝ }
+{
+    let placement = placement_of(store, key, value, flag, stamp);
+    match placement {
+        Placement::Insert(at) => {
+            open_slot(store, at);
+            write_entry(store, at, key, value, flag, stamp);
+            Offered::Stored
+        }
+        Placement::Replace(at) => {
+            write_entry(store, at, key, value, flag, stamp);
+            Offered::Replaced
+        }
+        Placement::Kept => Offered::Kept,
+        Placement::Refused(refusal) => Offered::Refused(refusal),
+    }
+}
+
+// Offers an entry with no test of soundness: for a caller that has tested it, and no entry point
+// of the module. On a sound store it is `offer`. On other bytes it follows the slots as they stand:
+// the entry may go to a wrong place among them, or be refused with StoreFull, or with BadStore where
+// the bytes do not have the slot that is to be written. It answers Stored or Replaced only if the
+// entry was written.
 pub fn offer_unchecked(
     store: &mut [u8],
     key: &[u8],
@@ -231,21 +278,32 @@ fn count_new(receiver: &[u8], giver: &[u8]) -> usize
     n
 }
 
-// Offers the entry of one of the giver's slots to the receiver.
+// Offers the entry of a giver's slot to the receiver. The slot's bytes are copied as they stand.
 fn give(receiver: &mut [u8], slot: &[u8])
-    ensures { λ _. ⌜ now (receiver .exit) ≡ afterPlaced (now (receiver .entry)) (slotEntry (now (slot .entry))) ⌝ }
+    requires { ⌜ length (now slot) ≡ slotWidth ⌝ }
+    ensures { λ _. ⌜ now (receiver .exit) ≡ writtenAt (placement (now (receiver .entry)) (slotEntry (now (slot .entry)))) (now (slot .entry)) (now (receiver .entry)) ⌝ }
 {
-    place_entry(
+    let placement = placement_of(
         receiver,
         slot_key(slot),
         slot_value(slot),
         slot_flag(slot),
         slot_stamp(slot),
     );
+    match placement {
+        Placement::Insert(at) => {
+            open_slot(receiver, at);
+            write_slot(receiver, at, slot);
+        }
+        Placement::Replace(at) => write_slot(receiver, at, slot),
+        Placement::Kept => {}
+        Placement::Refused(_) => {}
+    }
 }
 
-// Offers each of the giver's entries to the receiver.
+// Offers each of a sound giver's entries to the receiver.
 fn give_all(receiver: &mut [u8], giver: &[u8])
+    requires { ⌜ sound (now giver) ≡ true ⌝ }
     ensures { λ _. ⌜ now (receiver .exit) ≡ afterAll (entriesOf (now (giver .entry))) (now (receiver .entry)) ⌝ }
 {
     let used = used_count(giver);

@@ -1,7 +1,6 @@
 use borrow.Author.Needs.{needs}
 use native.Mathlib.Omega.{arith}
 use mathlib.Core.Path.{sym, ap, _∙_}
-use Prim.Native.Nat.{ℕ, _+_, _*_}
 use Rattle.image.specs.Layout.{slotStart}
 use Rattle.image.proofs.Soundness.{bad-some, bad-most, bad-room, bad-size, bad-width, bad-offset, shaped-by-rest}
 use Rattle.image.proofs.Sealing.{zero-test}

@@ -1,83 +1,119 @@
 use borrow.Author.Needs.{needs}
 use native.Mathlib.Omega.{arith}
-use mathlib.Core.Path.{sym, ap, _∙_}
-use mathlib.Core.List.{List}
-use Prim.Native.Nat.{ℕ}
-use Rattle.entry.specs.Entry.{entryOf, beats}
-use Rattle.image.specs.Image.{slotEntry}
-use Rattle.store.proofs.Ways.{place-replaced, place-kept, place-full, place-stored}
+use mathlib.Core.Path.{refl}
+use Rattle.entry.specs.Entry.{entryOf}
+use Rattle.image.specs.Image.{slotBytes}
+use Rattle.store.specs.Unchecked.{afterPlaced}
+use Rattle.store.proofs.Ways.{insert-fits, replace-fits, told-as, left-as, inserted-as}
 use Rattle.store.proofs.place_entry.Statement.{statement}
 use Rattle.store.proofs.place_entry.Tie as tie
 
-seek-requires : tie.Need-seek-requires
-seek-requires c κs = search needs
+placement-of-requires : tie.Need-placement-of-requires
+placement-of-requires c κs = search needs
 
-slot-requires : tie.Need-slot-requires
-slot-requires c κs = search needs
+enum-known-placement : tie.Need-enum-known-placement
+enum-known-placement c = search needs
 
-beats-slot-requires : tie.Need-beats-slot-requires
-beats-slot-requires c κs = search needs
+open-slot-requires : tie.Need-open-slot-requires
+open-slot-requires c κs =
+    let at = c .before .before in
+    insert-fits _ _ _ (at .before .before .placement-of .ensures) _ (at .placement .given .1)
 
-replace-requires : tie.Need-replace-requires
-replace-requires c κs = search needs
+write-entry-requires : tie.Need-write-entry-requires
+write-entry-requires c κs =
+    let opened = c .before .before .before in
+    let at = opened .before .before .before in
+    let f = insert-fits _ _ _ (at .before .before .placement-of .ensures) _ (at .placement .given .1) in
+    omega (arith, f .0, f .1, opened .open-slot .kept .0)
+
+enum-known-placement-2 : tie.Need-enum-known-placement-2
+enum-known-placement-2 c = search needs
+
+write-entry-requires-2 : tie.Need-write-entry-requires-2
+write-entry-requires-2 c κs =
+    let at = c .before .before in
+    replace-fits _ _ _ (at .before .before .placement-of .ensures) _ (at .placement2 .given .1)
+
+enum-told : tie.Need-enum-told
+enum-told c = search needs
+
+enum-known-placement-3 : tie.Need-enum-known-placement-3
+enum-known-placement-3 c = search needs
 
 same-length : tie.Need-same-length
 same-length c = search needs
 
 returns : tie.Need-returns
+unfolding afterPlaced
 returns c =
-    let a = c .before .before .before .before .before .before .before .before .before .before .before .before .before .before .args in
-    place-replaced (a .store .now) (entryOf (a .key .now) (a .value .now) (a .flag) (a .stamp)) _ _ (c .before .before .before .before .before .before .before .before .before .seek .ensures) (c .before .before .before .before .before .before .before .before .if1 .taken) (sym (c .before .before .before .before .before .beats-slot .ensures ∙ ap (λ (l : List ℕ). beats (entryOf (a .key .now) (a .value .now) (a .flag) (a .stamp)) (slotEntry l)) (c .before .before .before .before .before .before .slot .ensures)) ∙ c .before .before .before .before .if2 .taken) _ (c .before .before .replace .ensures)
+    let written = c .before .before in
+    let opened = written .before .before .before .before in
+    let at = opened .before .before .before in
+    let found = at .before .before in
+    let a = found .before .before .before .before .before .args in
+    let e = entryOf (a .key .now) (a .value .now) (a .flag) (a .stamp) in
+    let k = found .placement-of .ensures in (
+      told-as (a .store .now) e _ k _ (at .placement .given .1),
+      inserted-as (a .store .now) e _ k _ (at .placement .given .1) (slotBytes e) _ _ (opened .open-slot .ensures) (written .write-entry .ensures),
+    )
 
 same-length-2 : tie.Need-same-length-2
 same-length-2 c = search needs
 
 returns-2 : tie.Need-returns-2
+unfolding afterPlaced
 returns-2 c =
-    let a = c .before .before .before .before .before .before .before .before .before .before .args in
-    place-kept (a .store .now) (entryOf (a .key .now) (a .value .now) (a .flag) (a .stamp)) _ _ (c .before .before .before .before .before .seek .ensures) (c .before .before .before .before .if1 .taken) (sym (c .before .beats-slot .ensures ∙ ap (λ (l : List ℕ). beats (entryOf (a .key .now) (a .value .now) (a .flag) (a .stamp)) (slotEntry l)) (c .before .before .slot .ensures)) ∙ c .if2 .left)
-
-slot-count-requires : tie.Need-slot-count-requires
-slot-count-requires c κs = search needs
-
-used-count-requires : tie.Need-used-count-requires
-used-count-requires c κs = search needs
+    let written = c .before .before in
+    let at = written .before .before .before in
+    let found = at .before .before in
+    let a = found .before .before .before .before .before .args in
+    let e = entryOf (a .key .now) (a .value .now) (a .flag) (a .stamp) in
+    let k = found .placement-of .ensures in
+    (told-as (a .store .now) e _ k _ (at .placement2 .given .1), left-as (a .store .now) e _ k _ (at .placement2 .given .1) (slotBytes e) _ (written .write-entry2 .ensures))
 
 same-length-3 : tie.Need-same-length-3
 same-length-3 c = search needs
 
 returns-3 : tie.Need-returns-3
+unfolding afterPlaced
 returns-3 c =
-    let a = c .before .before .before .before .before .before .before .before .before .before .before .args in
-    place-full (a .store .now) (entryOf (a .key .now) (a .value .now) (a .flag) (a .stamp)) _ _ (c .before .before .before .before .before .before .seek .ensures) (c .before .before .before .before .before .if1 .left) (omega (arith, c .before .before .before .slot-count .ensures .0, c .before .used-count .ensures .0, c .if3 .taken))
-
-insert-requires : tie.Need-insert-requires
-insert-requires c κs = search needs
+    let at = c in
+    let found = at .before .before in
+    let a = found .before .before .before .before .before .args in
+    let e = entryOf (a .key .now) (a .value .now) (a .flag) (a .stamp) in
+    let k = found .placement-of .ensures in
+    (told-as (a .store .now) e _ k _ (at .enum-told .given .1), left-as (a .store .now) e _ k _ (at .enum-told .given .1) (slotBytes e) _ refl)
 
 same-length-4 : tie.Need-same-length-4
 same-length-4 c = search needs
 
 returns-4 : tie.Need-returns-4
+unfolding afterPlaced
 returns-4 c =
-    let a = c .before .before .before .before .before .before .before .before .before .before .before .before .before .before .before .args in
-    place-stored (a .store .now) (entryOf (a .key .now) (a .value .now) (a .flag) (a .stamp)) _ _ (c .before .before .before .before .before .before .before .before .before .before .seek .ensures) (c .before .before .before .before .before .before .before .before .before .if1 .left) (omega (arith, c .before .before .before .before .before .before .before .slot-count .ensures .0, c .before .before .before .before .before .used-count .ensures .0, c .before .before .before .before .if3 .left)) _ (c .before .before .insert .ensures)
+    let at = c .before in
+    let found = at .before .before in
+    let a = found .before .before .before .before .before .args in
+    let e = entryOf (a .key .now) (a .value .now) (a .flag) (a .stamp) in
+    let k = found .placement-of .ensures in
+    (told-as (a .store .now) e _ k _ (at .placement3 .given .1), left-as (a .store .now) e _ k _ (at .placement3 .given .1) (slotBytes e) _ refl)
 
 pub place-entry-spec : {M : Type 1} → statement M
 place-entry-spec =
     tie.close
     (tie.spec
-    seek-requires
-    slot-requires
-    beats-slot-requires
-    replace-requires
+    placement-of-requires
+    enum-known-placement
+    open-slot-requires
+    write-entry-requires
+    enum-known-placement-2
+    write-entry-requires-2
+    enum-told
+    enum-known-placement-3
     same-length
     returns
     same-length-2
     returns-2
-    slot-count-requires
-    used-count-requires
     same-length-3
     returns-3
-    insert-requires
     same-length-4
     returns-4)
