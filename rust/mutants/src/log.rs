@@ -18,6 +18,8 @@ pub struct Fault {
 pub enum Verdict {
     /// The crate is proved all the same.
     Proved,
+    /// It is a program, proved all the same, that writes something else.
+    Output,
     /// A fact fails.
     Fact,
     /// The proof file asks for facts that the code no longer has, so this shows nothing.

@@ -6,6 +6,7 @@ use std::path::Path;
 pub const USAGE: &str = "\
 mutants run [--crate NAME].. [--code N] [--definitions N] [--seed N] [--jobs N] [--alone] ROOT
     tries up to N mutants of each crate's code (150) and of the definitions that its contracts cite (60);
+    a mutant of a program that is proved is also run, and refused if it writes something else;
     fails if one survives that same-program.txt does not explain, or if one listed there is refused or gone;
     --alone: one mutant a check, also where those of several functions could share one
 mutants list [--crate NAME].. ROOT

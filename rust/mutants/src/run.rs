@@ -252,7 +252,7 @@ fn said(mutant: &Mutant, verdict: Verdict) -> Option<String> {
     match (verdict, mutant.listed) {
         (Verdict::Proved, false) => Some(format!("SURVIVES  {}", told(mutant))),
         (Verdict::NoVerdict, _) => Some(format!("no verdict  {}", told(mutant))),
-        (Verdict::Fact | Verdict::Unfit, true) => {
+        (Verdict::Fact | Verdict::Unfit | Verdict::Output, true) => {
             Some(format!("listed, and refused  {}", told(mutant)))
         }
         _ => None,

@@ -9,6 +9,7 @@ pub struct Row {
     pub made: usize,
     pub fact: usize,
     pub unfit: usize,
+    pub output: usize,
     pub not_compiled: usize,
     pub no_verdict: usize,
     pub same: usize,
@@ -20,6 +21,7 @@ impl Row {
         let cell = match verdict {
             Verdict::Fact => &mut self.fact,
             Verdict::Unfit => &mut self.unfit,
+            Verdict::Output => &mut self.output,
             Verdict::NotCompiled => &mut self.not_compiled,
             Verdict::NoVerdict => &mut self.no_verdict,
             Verdict::Proved if explained => &mut self.same,
@@ -28,21 +30,25 @@ impl Row {
         *cell += 1;
     }
 
-    fn cells(&self) -> [usize; 8] {
+    /// The cells in the table's order: those after the first two add up to the second.
+    fn cells(&self) -> [usize; 9] {
         let ended = [
             self.fact,
             self.unfit,
+            self.output,
             self.not_compiled,
             self.no_verdict,
             self.same,
             self.survives,
         ];
-        let [fact, unfit, not_compiled, no_verdict, same, survives] = ended;
+        let [fact, unfit, output, not_compiled, no_verdict, same, survives] = ended;
+        let tried = ended.iter().sum();
         [
             self.made,
-            ended.iter().sum(),
+            tried,
             fact,
             unfit,
+            output,
             not_compiled,
             no_verdict,
             same,
@@ -72,9 +78,9 @@ impl Table {
 
 impl std::fmt::Display for Table {
     fn fmt(&self, f: &mut std::fmt::Formatter<'_>) -> std::fmt::Result {
-        writeln!(f, "| crate | of | made | tried | a fact fails | proof unfit | not compiled | no verdict | same program | survives |")?;
-        writeln!(f, "|---|---|---:|---:|---:|---:|---:|---:|---:|---:|")?;
-        let mut sums = [0; 8];
+        writeln!(f, "| crate | of | made | tried | a fact fails | proof unfit | another output | not compiled | no verdict | same program | survives |")?;
+        writeln!(f, "|---|---|---:|---:|---:|---:|---:|---:|---:|---:|---:|")?;
+        let mut sums = [0; 9];
         for (name, part, row) in &self.rows {
             let of = if *part == Part::Code {
                 "code"

@@ -1,6 +1,6 @@
 //! A copy of the repository in which changes are tried, each over what was proved before.
 
-use crate::log::Log;
+use crate::log::{Log, Verdict};
 use std::collections::BTreeMap;
 use std::fs;
 use std::io;
@@ -11,6 +11,9 @@ use std::time::{Duration, Instant, SystemTime};
 
 /// A check that takes longer has no verdict.
 const LONGEST: Duration = Duration::from_secs(600);
+
+/// What `rt try` says of a program that writes what its file `stdout` has.
+const WROTE: &str = "ok: the native program at -O3 ended and wrote what is expected";
 
 #[derive(Debug)]
 pub struct Workplace {
@@ -49,7 +52,8 @@ impl Workplace {
         Ok(log)
     }
 
-    /// Checks a crate with some of its files changed, and puts everything back.
+    /// Checks a crate with some of its files changed, and puts everything back. A program that is
+    /// proved is also run.
     pub fn check(&mut self, name: &str, changed: &[(String, String)]) -> io::Result<Log> {
         self.restore(name)?;
         let mut kept = Vec::new();
@@ -58,11 +62,27 @@ impl Workplace {
             kept.push((path.clone(), fs::read(&path)?));
             fs::write(&path, text)?;
         }
-        let log = self.run(name);
+        let log = self.run(name).and_then(|log| self.ran(name, log));
         for (path, bytes) in kept.iter().rev() {
             fs::write(path, bytes)?;
         }
         log
+    }
+
+    /// What is said of a program's check once it has run: the rules of a program are held by what it
+    /// writes.
+    fn ran(&self, name: &str, mut log: Log) -> io::Result<Log> {
+        let expected = self.root.join("crates").join(name).join("stdout");
+        if log.verdict == Verdict::Proved && expected.exists() {
+            let mut command = Command::new("rt");
+            command.args(["try", name]).current_dir(&self.root);
+            let tried = command.stdin(Stdio::null()).output()?;
+            let said = String::from_utf8_lossy(&tried.stdout);
+            if !said.lines().any(|line| line == WROTE) {
+                log.verdict = Verdict::Output;
+            }
+        }
+        Ok(log)
     }
 
     /// Makes a crate's incremental folder that of the base.

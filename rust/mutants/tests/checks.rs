@@ -48,7 +48,10 @@ fn a_function_without_a_proof_file_is_refused_for_a_fact() {
 logic=not-proved
 ";
     let log = Log::read(log, true);
-    assert_eq!((log.verdict, log.standing("Clock::fresh")), (Verdict::Fact, Some(Standing::Refused)));
+    assert_eq!(
+        (log.verdict, log.standing("Clock::fresh")),
+        (Verdict::Fact, Some(Standing::Refused))
+    );
 }
 
 #[test]
