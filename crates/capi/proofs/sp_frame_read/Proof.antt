@@ -26,7 +26,8 @@ returns c =
     let m = c .before .before .before in
     let k = m .before .before in
     let a = k .before .before .before .args in
-    let p = read-no-room (a .frame .now) (a .fields .now) (k .read .result) (k .read .ensures) _ (m .outcome2 .given .1) (c .before .if1 .taken) _ (c .refused2 .ensures) in
+    let p = read-no-room (a .frame .now) (a .fields .now) (k .read .result) (k .read .ensures) _ (m .outcome2 .given .1) (c .before .if1 .taken) _
+    (c .refused2 .ensures) in
     (p .told, p .left)
 
 field-words-requires : tie.Need-field-words-requires
@@ -36,7 +37,9 @@ slice-aggregate-put-front : tie.Need-slice-aggregate-put-front
 slice-aggregate-put-front c = search needs
 
 put-front-requires : tie.Need-put-front-requires
-put-front-requires c κs = let w = c .before .before in omega (arith, ap length (w .field-words .ensures) ∙ ten-in (w .before .before .before .outcome2 .given .0 .0))
+put-front-requires c κs =
+    let w = c .before .before in
+    omega (arith, ap length (w .field-words .ensures) ∙ ten-in (w .before .before .before .outcome2 .given .0 .0))
 
 returns-2 : tie.Need-returns-2
 returns-2 c =
