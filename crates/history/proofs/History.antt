@@ -16,7 +16,8 @@ use Rattle.entry.specs.Entry.{Entry, Acceptable, Consistent}
 use Rattle.entry.proofs.Accept.{accepted}
 use Rattle.image.specs.Layout.{mostSlots}
 use Rattle.image.specs.Image.{image, slotsOf, entriesOf, sound}
-use Rattle.image.proofs.SlotLaws.{Fit, fits}
+use Rattle.image.specs.Meaning.{Fit}
+use Rattle.image.proofs.SlotLaws.{fits}
 use Rattle.image.proofs.ImageLaws.{sound-image, slots-of-image, entries-of-image}
 use Rattle.store.specs.Held.{_∈_, find, indexOf}
 use Rattle.store.specs.Answer.{stored, replaced, kept, isRefused}

@@ -16,13 +16,10 @@ use Rattle.wire.proofs.Fill.{length-zeros, field-here, field-past}
 use Rattle.wire.proofs.Order.{sameBytes-eq, sameBytes-refl}
 use Rattle.entry.specs.Entry.{Entry}
 use Rattle.image.specs.Layout.{headerWidth, slotWidth, mostSlots, slotStart}
-use Rattle.image.specs.Image.{slotBytes, slots, header, image, slotEntry, entriesIn, slotsOf, usedOf, entriesOf, acceptable, allAcceptable, ascending, sound}
+use Rattle.image.specs.Image.{slotBytes, slots, header, image, slotEntry, entriesIn, slotsOf, usedOf, entriesOf, acceptable, allAcceptable, sound}
 use Rattle.image.specs.Slot.{slotAt, headerWith}
-use Rattle.image.proofs.SlotLaws.{length-slot, Fit, slot-entry, fit-of}
-
-abbrev pub AllFit : List Entry → Type 0
-AllFit [] = Unit {0}
-AllFit (e ∷ es) = Fit e × AllFit es
+use Rattle.image.specs.Meaning.{AllFit, Sound, SoundIs, SoundImage, EntriesOfImage}
+use Rattle.image.proofs.SlotLaws.{length-slot, slot-entry, fit-of}
 
 pub length-slots : (es : List Entry) → length (slots es) ≡ slotWidth * length es
 unfolding slots
@@ -82,7 +79,7 @@ entries-in (e ∷ es) r f =
     ap₂ (λ (a b : List ℕ). slotEntry a ∷ entriesIn (length es) b) (first-slot e es r) (other-slots e es r)
     ∙ ap₂ (λ (x : Entry) (xs : List Entry). x ∷ xs) (slot-entry e (f .0)) (entries-in es r (f .1))
 
-pub entries-of-image : (c : ℕ) (es : List Entry) → AllFit es → length es < 65536 → entriesOf (image c es) ≡ es
+pub entries-of-image : EntriesOfImage
 unfolding entriesOf
 entries-of-image c es f h =
     ap₂ entriesIn (used-of-image c es h) (ap (drop headerWidth) (flat-image c es) ∙ drop-at (header c (length es)) _ headerWidth (length-header c (length es)))
@@ -117,15 +114,7 @@ entry-at i s h =
     ∙ ap (λ (l : List ℕ). slotEntry (take slotWidth l) ∷ drop (suc i) (entriesIn (usedOf s) (drop headerWidth s))) (drop-drop (slotWidth * i) headerWidth s)
 
 -- ---- a sound store
-pub record Sound (s : List ℕ) : Type 0 where
-  pub some : 1 ≤ slotsOf s
-  pub most : slotsOf s ≤ mostSlots
-  pub room : usedOf s ≤ slotsOf s
-  pub each : allAcceptable (entriesOf s) ≡ true
-  pub order : ascending (entriesOf s) ≡ true
-  pub bytes : s ≡ image (slotsOf s) (entriesOf s)
-
-pub sound-is : (s : List ℕ) → sound s ≡ true → Sound s
+pub sound-is : SoundIs
 unfolding sound
 sound-is s h =
     let t5 = and-true _ _ h in
@@ -146,7 +135,7 @@ pub is-sound : (s : List ℕ) → Sound s → sound s ≡ true
 unfolding sound
 is-sound s k = rw (le-leb _ _ (k .some), le-leb _ _ (k .most), le-leb _ _ (k .room), k .each, k .order, ← k .bytes) (sameBytes-refl s)
 
-pub sound-image : (c : ℕ) (es : List Entry) → 1 ≤ c → c ≤ mostSlots → length es ≤ c → AllFit es → allAcceptable es ≡ true → ascending es ≡ true → sound (image c es) ≡ true
+pub sound-image : SoundImage
 unfolding sound
 sound-image c es lo hi room f each order =
     rw (slots-of-image c es (omega arith), used-of-image c es (omega arith), entries-of-image c es f (omega arith), le-leb 1 c lo, le-leb c mostSlots hi, le-leb (length es) c room, each, order, sameBytes-refl (image c es))

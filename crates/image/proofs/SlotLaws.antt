@@ -1,6 +1,6 @@
 -- A slot: its length, what is read back from it, and when bytes are the slot of their entry.
 use mathlib.Core.Path.{_≡_, sym, ap, _∙_}
-use Prim.Native.Nat.{ℕ, _+_, _^_, _≤_, _<_}
+use Prim.Native.Nat.{ℕ, _+_, _^_, _<_}
 use mathlib.Core.List.{List, _++_, append-assoc}
 use native.Mathlib.Omega.{arith}
 use lib.ListN.{length, length-append}
@@ -15,6 +15,7 @@ use Rattle.entry.proofs.Accept.{accepted}
 use Rattle.image.specs.Layout.{keyAt, keyWidth, valueWidth, bodyWidth, slotWidth}
 use Rattle.image.specs.Slot.{slotWith}
 use Rattle.image.specs.Image.{slotHead, slotBody, slotBytes, keyIn, flagIn, valueIn, stampIn, slotEntry}
+use Rattle.image.specs.Meaning.{Fit}
 
 pub length-head : (e : Entry) → length (slotHead e) ≡ keyAt
 unfolding slotHead
@@ -34,16 +35,6 @@ unfolding slotWith
 slot-with e s h = rw (eq-eqb (length s) slotWidth h)
 
 -- ---- what is read back
-
--- an entry whose parts fit the fields of a slot
-pub record Fit (e : Entry) : Type 0 where
-  pub key : length (e .key) ≤ keyWidth
-  pub value : length (e .value) ≤ valueWidth
-  pub flag : e .flag < 2 ^ 8
-  pub phys : e .stamp .phys < 2 ^ 48
-  pub logical : e .stamp .logical < 2 ^ 16
-  pub node : e .stamp .node < 2 ^ 8
-
 module _ (e : Entry) where
   -- what follows the value's length, its time and the head
   abbrev tail : List ℕ

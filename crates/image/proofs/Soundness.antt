@@ -31,12 +31,13 @@ use Rattle.image.specs.Layout.{headerWidth, keyWidth, valueWidth, slotWi
 use Rattle.image.specs.Image.{slotBytes, slots, header, keyIn, flagIn, valueIn, stampIn, slotEntry, entriesIn, slotsOf, usedOf, entriesOf, acceptable, allAcceptable, belowFirst, ascending, sound}
 use Rattle.image.specs.Slot.{slotAt}
 use Rattle.image.specs.Check.{sealed, slotSound, slotsSound, shaped}
+use Rattle.image.specs.Meaning.{Fit, AllFit, Sound}
 use Rattle.image.proofs.Compared.{came-below, came-not-below}
 use Rattle.wire.proofs.Fields.{be-field, field-split}
 use Rattle.image.proofs.Fields.{field-past-all}
-use Rattle.image.proofs.SlotLaws.{length-slot, Fit, fit-of, slot-entry, in-klen, in-vlen}
+use Rattle.image.proofs.SlotLaws.{length-slot, fit-of, slot-entry, in-klen, in-vlen}
 use Rattle.image.proofs.Sealing.{zero-true, zero-is}
-use Rattle.image.proofs.ImageLaws.{AllFit, Sound, sound-is, is-sound, sound-fits, sound-length, used-is, entry-at, next-slot, first-slot, other-slots, length-header, length-slots, flat-image, flat-header, past-header}
+use Rattle.image.proofs.ImageLaws.{sound-is, is-sound, sound-fits, sound-length, used-is, entry-at, next-slot, first-slot, other-slots, length-header, length-slots, flat-image, flat-header, past-header}
 
 -- ---- a slot
 pub record Good (t : List ℕ) : Type 0 where

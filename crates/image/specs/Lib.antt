@@ -2,3 +2,4 @@ pub mod Layout
 pub mod Image
 pub mod Slot
 pub mod Check
+pub mod Meaning

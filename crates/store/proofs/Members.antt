@@ -8,8 +8,7 @@ use borrow.Author.Tests.{eqb-true, eq-eqb}
 use Rattle.wire.proofs.Tests.{and-true}
 use Rattle.entry.specs.Entry.{Entry, Acceptable, refusalOf}
 use Rattle.image.specs.Image.{acceptable, allAcceptable, belowFirst, ascending}
-use Rattle.image.proofs.SlotLaws.{Fit}
-use Rattle.image.proofs.ImageLaws.{AllFit}
+use Rattle.image.specs.Meaning.{Fit, AllFit}
 use Rattle.store.specs.Held.{_∈_}
 use Rattle.store.proofs.HeldLaws.{Above, Ascending, above-trans, above-cons}
 

@@ -14,8 +14,8 @@ use Rattle.entry.specs.Entry.{Entry, Acceptable, beats, refusalOf}
 use Rattle.image.specs.Layout.{slotStart}
 use Rattle.image.specs.Image.{image, slotBytes, slotsOf, usedOf, entriesOf, sound}
 use Rattle.image.specs.Slot.{hasSlot}
-use Rattle.image.proofs.SlotLaws.{Fit}
-use Rattle.image.proofs.ImageLaws.{Sound, sound-is, sound-image, sound-fits, sound-length, slots-of-image, entries-of-image, used-is}
+use Rattle.image.specs.Meaning.{Fit, Sound}
+use Rattle.image.proofs.ImageLaws.{sound-is, sound-image, sound-fits, sound-length, slots-of-image, entries-of-image, used-is}
 use Rattle.store.specs.Held.{_∈_, put, putAll, find, indexOf}
 use Rattle.store.specs.Answer.{refused, isRefused}
 use Rattle.store.specs.Lookup.{findingFor, lookupAnswer}

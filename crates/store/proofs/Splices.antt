@@ -14,8 +14,9 @@ use Rattle.entry.specs.Entry.{Entry}
 use Rattle.image.specs.Layout.{usedAt, widthAt, headerWidth, slotWidth, slotStart}
 use Rattle.image.specs.Image.{slotBytes, slots, header, image, slotEntry, slotsOf, usedOf, entriesOf}
 use Rattle.image.specs.Slot.{slotAt}
+use Rattle.image.specs.Meaning.{Sound}
 use Rattle.image.proofs.SlotLaws.{length-slot}
-use Rattle.image.proofs.ImageLaws.{Sound, used-is, entry-at, length-header, length-slots, slots-append, flat-image, flat-header}
+use Rattle.image.proofs.ImageLaws.{used-is, entry-at, length-header, length-slots, slots-append, flat-image, flat-header}
 use Rattle.store.specs.Unchecked.{splice, replaceAt, insertAt}
 
 -- ---- a part replaced

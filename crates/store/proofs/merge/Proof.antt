@@ -4,7 +4,8 @@ use native.Mathlib.Omega.{arith}
 use mathlib.Core.Path.{_≡_, sym, _∙_}
 use mathlib.Core.Bool.{true}
 use Rattle.image.specs.Image.{entriesOf, sound}
-use Rattle.image.proofs.ImageLaws.{Sound, sound-is, used-is}
+use Rattle.image.specs.Meaning.{Sound}
+use Rattle.image.proofs.ImageLaws.{sound-is, used-is}
 use Rattle.store.specs.Unchecked.{countNew}
 use Rattle.store.proofs.Ways.{merge-5, merge-giver-5, merge-6, merge-done}
 use Rattle.store.proofs.Seeking.{count-most}
