@@ -9,12 +9,13 @@ use lib.ListN.{length, take, drop, length-drop}
 use lib.Seq.{length-take-le, take-all, take-add}
 use borrow.Author.Tests.{eqb-true, eq-eqb}
 use Rattle.wire.specs.Fill.{field}
-use Rattle.wire.proofs.Tests.{cases, clash}
+use Rattle.wire.proofs.Tests.{clash}
 use Rattle.wire.proofs.Fields.{field-part}
 use Rattle.clock.specs.declared.Clock.{Clock}
 use Rattle.clock.specs.Clock.{freshClock}
 use Rattle.store.specs.Create.{createRefusal, afterCreate}
-use Rattle.replayer.specs.declared.Next.the-variants.{Read}
+use Rattle.replayer.specs.declared.Next.{Next}
+use Rattle.replayer.specs.declared.Next.the-variants.{Read, Write, Stop}
 use Rattle.replayer.specs.declared.Progress.{Progress}
 use Rattle.replayer.specs.Replies.{Kept, start}
 use Rattle.replayer.specs.Advance.{Replay, advanced, Advances}
@@ -22,7 +23,7 @@ use Rattle.replayer.specs.Meaning.{Standing, Call, written, isStop, called, cal
 use Rattle.replayer.proofs.Calls.{calls-stay-within, reads-for-a-record}
 use Rattle.replayer.proofs.Feeding.{fed-more, ended-more, ended-none}
 use Rattle.replay.specs.declared.State.{State}
-use Rattle.replay.specs.State.{Fits, Stands, Refilled}
+use Rattle.replay.specs.State.{Fits, History, oneMore, Stands, Refilled, pastCall, CanGoOn, GoesOn, TurnIsOneCall}
 
 -- what is left of a part once its first bytes are taken
 part-left : (a e t : ℕ) (b : List ℕ) → a + t ≤ e → e ≤ length b → drop t (take (e - a) (drop a b)) ≡ take (e - (a + t)) (drop (a + t) b)
@@ -39,13 +40,12 @@ filled-rest k e at u b h l z =
     let d : k + (e - k) ≡ e = omega arith in
     rw (z, sub-zero, h) (sym (take-add k (e - k) b) ∙ ap (λ (n : ℕ). take n b) d)
 
-called-as : (e : Bool) (i : Standing) (c : Call) (b : List ℕ) (k : Kept) → isStop (i .next) ≡ false → i .rest ++ c .came ≡ b → i .kept ≡ k
-    → called e i c ≡ written i b (advanced e b (c .room) k)
+called-as : (e : Bool) (i : Standing) (c : Call) (b : List ℕ) (n : ℕ) (k : Kept) → isStop (i .next) ≡ false → i .rest ++ c .came ≡ b → c .room ≡ n
+    → i .kept ≡ k → called e i c ≡ written i b (advanced e b n k)
 unfolding called
-called-as e i c b k h r q = rw h (λ j. written i (r j) (advanced e (r j) (c .room) (q j)))
+called-as e i c b n k h r m q = rw h (λ j. written i (r j) (advanced e (r j) (m j) (q j)))
 
-module _ (store reply input output : List ℕ) (s : State) (f : Fits input output s) (w : Stands store reply input s) (g : s .going ≡ true)
-    (p : Progress) (store′ reply′ output′ : List ℕ)
+module _ (store reply input output : List ℕ) (s : State) (f : Fits input output s) (g : s .going ≡ true) (p : Progress) (store′ reply′ output′ : List ℕ)
     (l : Advances store (s .clock) (take (s .end - s .at) (drop (s .at) input)) (s .ended) reply output p store′ reply′ output′) where
   came : List ℕ
   came = take (s .end - s .at) (drop (s .at) input)
@@ -74,23 +74,14 @@ module _ (store reply input output : List ℕ) (s : State) (f : Fits input outpu
       omega (arith, l .filled-is, v .output-left, f .outputs)
 
   -- where more is to be read, less than a record is left
-  pub read-room : p .next ≡ Read → s .end - (s .at + p .taken) < 606
+  read-room : p .next ≡ Read → s .end - (s .at + p .taken) < 606
   unfolding x came before
   read-room h =
       let v = reads-for-a-record (s .ended) came (length output) before (sym (l .next-is) ∙ h) in
       omega (arith, v .1, length-drop (x .taken) came, came-long, l .taken-is)
 
-  -- the standing after the call
-  after : Standing
-  after = record {
-    kept = record { store = store′; clock = p .clock; reply = reply′ };
-    rest = take (s .end - (s .at + p .taken)) (drop (s .at + p .taken) input);
-    written = ended (w .calls) (w .rooms) .written ++ x .output;
-    next = p .next;
-  }
-
-  made : Call
-  made = record { came = w .came; room = length output }
+  pub can-go-on : CanGoOn input s p
+  can-go-on = record { order = taken-within; within = f .within; room = λ h. omega (arith, read-room h, f .inputs) }
 
   written-is : (i : Standing) → written i came x ≡ record {
     kept = record { store = store′; clock = p .clock; reply = reply′ };
@@ -109,101 +100,123 @@ module _ (store reply input output : List ℕ) (s : State) (f : Fits input outpu
         next = sym (l .next-is) j;
       }
 
-  call-is : called (s .ended) (ended (w .calls) (w .rooms)) made ≡ after
-  unfolding made after came before x
-  call-is =
-      let i = ended (w .calls) (w .rooms) in
-      called-as (s .ended) i made came before (w .goes g) (w .rest-is) (w .kept-is) ∙ written-is i
+  fits-past : (going : Bool) → length output′ ≡ length output → Fits input output′ (pastCall s p going)
+  fits-past going os = record { order = taken-within; within = f .within; inputs = f .inputs; outputs = os ∙ f .outputs }
 
-  -- the calls up to this one
-  record Made : Type 0 where
-    calls : List Call
-    rooms : List ℕ
-    stands : ended calls rooms ≡ after
-    open-ended : s .ended ≡ false → rooms ≡ []
+  -- where the program stands once the call is made
+  module _ (h : History) (w : Stands h store reply input s) where
+    after : Standing
+    after = record {
+      kept = record { store = store′; clock = p .clock; reply = reply′ };
+      rest = take (s .end - (s .at + p .taken)) (drop (s .at + p .taken) input);
+      written = ended (h .calls) (h .rooms) .written ++ x .output;
+      next = p .next;
+    }
 
-  all-made : Made
-  unfolding made
-  all-made = cases (s .ended)
-      (λ e. record {
-        calls = w .calls;
-        rooms = w .rooms ++ (length output ∷ []);
-        stands =
-            let c : noMore (length output) ≡ made = λ j. record { came = sym (w .no-more e) j; room = length output } in
-            ended-more (w .calls) (w .rooms) (length output) ∙ rw (c, ← e) call-is;
-        open-ended = λ h. clash e h;
-      })
-      (λ e. record {
-        calls = w .calls ++ (made ∷ []);
-        rooms = [];
-        stands =
-            let i : fed (w .calls) ≡ ended (w .calls) (w .rooms) = sym (ended-none (w .calls)) ∙ ap (ended (w .calls)) (sym (w .open-ended e)) in
-            ended-none (w .calls ++ (made ∷ [])) ∙ fed-more (w .calls) made ∙ (λ j. called (sym e j) (i j) made) ∙ call-is;
-        open-ended = λ h. refl;
-      })
+    made : Call
+    made = record { came = h .came; room = 65536 }
 
-  module _ (os : length output′ ≡ length output) where
-    -- the program goes on, or stops
-    pub stands-on : (going : Bool) → (going ≡ true → isStop (p .next) ≡ false)
-        → let r : State = record { clock = p .clock; at = s .at + p .taken; end = s .end; ended = s .ended; going = going } in
-        Fits input output′ r × Stands store′ reply′ input r
+    call-is : called (s .ended) (ended (h .calls) (h .rooms)) made ≡ after
+    unfolding made after came before x
+    call-is =
+        let i = ended (h .calls) (h .rooms) in
+        called-as (s .ended) i made came (length output) before (w .goes g) (w .rest-is) (sym (f .outputs)) (w .kept-is) ∙ written-is i
+
+    all-made : (b : Bool) (more : List ℕ) → s .ended ≡ b → ended (oneMore b h more .calls) (oneMore b h more .rooms) ≡ after
+    unfolding made
+    all-made true more e =
+        let c : noMore 65536 ≡ made = λ j. record { came = sym (w .no-more e) j; room = 65536 } in
+        ended-more (h .calls) (h .rooms) 65536 ∙ rw (c, ← e) call-is
+    all-made false more e =
+        let i : fed (h .calls) ≡ ended (h .calls) (h .rooms) = sym (ended-none (h .calls)) ∙ ap (ended (h .calls)) (sym (w .open-ended e)) in
+        let z : h .rooms ≡ [] = w .open-ended e in
+        ap (ended (h .calls ++ (made ∷ []))) z ∙ ended-none (h .calls ++ (made ∷ [])) ∙ fed-more (h .calls) made ∙ (λ j. called (sym e j) (i j) made) ∙ call-is
+
+    still-open : (b : Bool) (more : List ℕ) → s .ended ≡ b → b ≡ false → oneMore b h more .rooms ≡ []
+    still-open true more e z = clash refl z
+    still-open false more e z = w .open-ended e
+
+    stands-past : (going : Bool) → (going ≡ true → isStop (p .next) ≡ false) → Stands (oneMore (s .ended) h []) store′ reply′ input (pastCall s p going)
     unfolding after
-    stands-on going h =
-        let m = all-made in (
-          record { order = taken-within; within = f .within; inputs = f .inputs; outputs = os ∙ f .outputs },
-          record {
-            calls = m .calls;
-            rooms = m .rooms;
-            came = [];
-            kept-is = ap (λ (i : Standing). i .kept) (m .stands);
-            rest-is = append-nil (ended (m .calls) (m .rooms) .rest) ∙ ap (λ (i : Standing). i .rest) (m .stands);
-            open-ended = m .open-ended;
-            no-more = λ e. refl;
-            goes = λ e. ap (λ (i : Standing). isStop (i .next)) (m .stands) ∙ h e;
-          },
-        )
+    stands-past going n =
+        let m = all-made (s .ended) [] refl in
+        record {
+          kept-is = ap (λ (i : Standing). i .kept) m;
+          rest-is = append-nil _ ∙ ap (λ (i : Standing). i .rest) m;
+          open-ended = still-open (s .ended) [] refl;
+          no-more = λ e. refl;
+          goes = λ e. ap (λ (i : Standing). isStop (i .next)) m ∙ n e;
+        }
 
     -- more has been read
-    pub stands-filled : p .next ≡ Read → (r : State) (input′ : List ℕ) → Refilled input (p .clock) (s .at + p .taken) (s .end) r input′ → length
-        input′ ≡ length input
-        → Fits input′ output′ r × Stands store′ reply′ input′ r
-    unfolding after x came before
-    stands-filled n r input′ q is =
-        let m = all-made in
-        let k = s .end - (s .at + p .taken) in
-        let v = reads-for-a-record (s .ended) came (length output) before (sym (l .next-is) ∙ n) in (
-          record { order = omega (arith, q .at-is); within = omega (arith, q .within); inputs = is ∙ f .inputs; outputs = os ∙ f .outputs },
+    module _ (n : p .next ≡ Read) (r : State) (input′ : List ℕ) (q : Refilled input (p .clock) (s .at + p .taken) (s .end) r input′) where
+      more : List ℕ
+      more = take (r .end - (s .end - (s .at + p .taken))) (drop (s .end - (s .at + p .taken)) input′)
+
+      stands-filled : Stands (oneMore (s .ended) h more) store′ reply′ input′ r
+      unfolding after x came before more
+      stands-filled =
+          let k = s .end - (s .at + p .taken) in
+          let m = all-made (s .ended) more refl in
+          let v = reads-for-a-record (s .ended) came (length output) before (sym (l .next-is) ∙ n) in
           record {
-            calls = m .calls;
-            rooms = m .rooms;
-            came = take (r .end - k) (drop k input′);
-            kept-is = ap (λ (i : Standing). i .kept) (m .stands) ∙ (λ j. record { store = store′; clock = sym (q .clock-is) j; reply = reply′ });
-            rest-is = filled-rest k (r .end) (r .at) (ended (m .calls) (m .rooms) .rest) input′
-                (ap (λ (i : Standing). i .rest) (m .stands) ∙ sym (q .kept)) (q .longer) (q .at-is);
-            open-ended = λ e. m .open-ended (v .0);
+            kept-is = ap (λ (i : Standing). i .kept) m ∙ (λ j. record { store = store′; clock = sym (q .clock-is) j; reply = reply′ });
+            rest-is = filled-rest k (r .end) (r .at) _ input′ (ap (λ (i : Standing). i .rest) m ∙ sym (q .kept)) (q .longer) (q .at-is);
+            open-ended = λ e. still-open (s .ended) more refl (v .0);
             no-more = λ e. ap (λ (a : ℕ). take a (drop k input′)) (eqb-true (r .end - k) 0 (sym (q .ended-is) ∙ e));
-            goes = λ e. ap (λ (i : Standing). isStop (i .next)) (m .stands) ∙ ap isStop n;
-          },
-        )
+            goes = λ e. ap (λ (i : Standing). isStop (i .next)) m ∙ ap isStop n;
+          }
+
+    stands-on : (n : Next) → p .next ≡ n → (r : State) (input′ : List ℕ) → GoesOn n input s p r input′
+        → (more : List ℕ) × Stands (oneMore (s .ended) h more) store′ reply′ input′ r
+    stands-on Read e r input′ q = (more e r input′ q, stands-filled e r input′ q)
+    stands-on Write e r input′ q = ([], rw (q .0, q .1) (stands-past true (λ y. ap isStop e)))
+    stands-on Stop e r input′ q = ([], rw (q .0, q .1) (stands-past false (λ y. clash y refl)))
+
+  -- ---- what a turn ensures
+  fits-on : (n : Next) → p .next ≡ n → (r : State) (input′ : List ℕ) → GoesOn n input s p r input′ → length input′ ≡ length input → length output′ ≡
+      length output
+      → Fits input′ output′ r
+  fits-on Read e r input′ q is os =
+      record { order = omega (arith, q .at-is); within = omega (arith, q .within); inputs = is ∙ f .inputs; outputs = os ∙ f .outputs }
+  fits-on Write e r input′ q is os = rw (q .0, q .1) (fits-past true os)
+  fits-on Stop e r input′ q is os = rw (q .0, q .1) (fits-past false os)
+
+  pub turn-goes-on : (r : State) (input′ : List ℕ) → GoesOn (p .next) input s p r input′ → length input′ ≡ length input → length output′ ≡ length output
+      → Fits input′ output′ r × TurnIsOneCall store reply input s store′ reply′ input′ r
+  turn-goes-on r input′ q is os = (fits-on (p .next) refl r input′ q is os, λ h w. stands-on h w (p .next) refl r input′ q)
+
+  pub turn-stops : (r : State) → r ≡ pastCall s p false → length output′ ≡ length output → Fits input output′ r × TurnIsOneCall store reply input s
+      store′ reply′ input r
+  turn-stops r e os = rw e (fits-past false os, λ h w. ([], stands-past h w false (λ y. clash y refl)))
+
+pub goes-as : (n m : Next) (input : List ℕ) (s : State) (p : Progress) (r : State) (input′ : List ℕ) → n ≡ m → GoesOn m input s p r input′ → GoesOn n
+    input s p r input′
+goes-as n m input s p r input′ e h = rw e h
 
 -- at the start no call has been made, and nothing has come
-pub stands-first : (store reply input output : List ℕ) (c : Clock) → store ≡ start .store → reply ≡ start .reply → c ≡ freshClock 1 → length input ≡
-    65536 → length output ≡ 65536
-    → let s : State = record { clock = c; at = 0; end = 0; ended = false; going = true } in Fits input output s × Stands store reply input s
+abbrev pub nothing : History
+nothing = record { calls = []; rooms = []; came = [] }
+
+pub stands-first : (store reply input : List ℕ) (c : Clock) → store ≡ start .store → reply ≡ start .reply → c ≡ freshClock 1
+    → Stands nothing store reply input (record { clock = c; at = 0; end = 0; ended = false; going = true })
 unfolding ended fed calledAll start
-stands-first store reply input output c hs hr hc is os = (
-  record { order = omega arith; within = omega arith; inputs = is; outputs = os },
-  record {
-    calls = [];
-    rooms = [];
-    came = [];
-    kept-is = λ j. record { store = sym hs j; clock = sym hc j; reply = sym hr j };
-    rest-is = refl;
-    open-ended = λ e. refl;
-    no-more = λ e. refl;
-    goes = λ e. refl;
-  },
-)
+stands-first store reply input c hs hr hc = record {
+  kept-is = λ j. record { store = sym hs j; clock = sym hc j; reply = sym hr j };
+  rest-is = refl;
+  open-ended = λ e. refl;
+  no-more = λ e. refl;
+  goes = λ e. refl;
+}
+
+pub fits-first : (input output : List ℕ) (c : Clock) → length input ≡ 65536 → length output ≡ 65536
+    → Fits input output (record { clock = c; at = 0; end = 0; ended = false; going = true })
+fits-first input output c is os = record { order = omega arith; within = omega arith; inputs = is; outputs = os }
+
+-- there is a history that has led there
+pub record Reached (store reply input : List ℕ) (s : State) : Type 0 where
+  pub history : History
+  pub stands : Stands history store reply input s
 
 -- a buffer of 59,616 bytes is made a store of 100 slots
 pub created : (b s : List ℕ) → length b ≡ 59616 → s ≡ afterCreate b 100 → s ≡ start .store

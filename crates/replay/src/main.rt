@@ -5,6 +5,7 @@ use image::layout::MAX_SLOTS;
 use libc::STDIN_FILENO;
 use libc::STDOUT_FILENO;
 use replayer::Next;
+use replayer::Progress;
 use replayer::advance;
 ghost use Prim.Native.Nat.{_+_, _-_, _≤_, _<_};
 ghost use mathlib.Core.Path.{_≡_};
@@ -13,7 +14,7 @@ ghost use mathlib.Core.List.{_++_};
 ghost use lib.ListN.{length, take, drop};
 ghost use lib.Dec.{eqb};
 ghost use Rattle.replayer.specs.Replies.{start};
-ghost use Rattle.replay.specs.State.{Fits, Stands, Refilled};
+ghost use Rattle.replay.specs.State.{Fits, Refilled, pastCall, CanGoOn, GoesOn, TurnIsOneCall};
 
 // Input bytes from `at` to `end` are not yet taken. `ended` says that no more follow.
 struct State {
@@ -65,7 +66,35 @@ fn refill(input: &mut [u8], clock: Clock, at: usize, end: usize) -> State
     }
 }
 
-// Answers what has come, writes the replies, and then reads on if more is wanted. A write that fails ends the replay.
+// The state past a call.
+fn past(state: State, progress: Progress, going: bool) -> State
+    requires { ⌜ state .at + progress .taken ≤ state .end ⌝ }
+    ensures { λ r. ⌜ r ≡ pastCall state progress going ⌝ }
+{
+    let clock = progress.clock;
+    State {
+        clock,
+        at: state.at + progress.taken,
+        end: state.end,
+        ended: state.ended,
+        going,
+    }
+}
+
+// Does what a call asks for once its replies are written.
+fn go_on(input: &mut [u8], state: State, progress: Progress) -> State
+    requires { ⌜ CanGoOn (now input) state progress ⌝ }
+    ensures { λ r. ⌜ GoesOn (progress .next) (now (input .entry)) state progress r (now (input .exit)) ⌝ }
+{
+    let next = progress.next;
+    match next {
+        Next::Read => refill(input, progress.clock, state.at + progress.taken, state.end),
+        Next::Write => past(state, progress, true),
+        Next::Stop => past(state, progress, false),
+    }
+}
+
+// Answers what has come, writes the replies, and then goes on. A write that fails ends the replay.
 fn turn(
     store: &mut [u8],
     reply: &mut [u8],
@@ -73,38 +102,27 @@ fn turn(
     output: &mut [u8],
     state: State,
 ) -> State
-    requires { ⌜ Fits (now input) (now output) state × Stands (now store) (now reply) (now input) state × (state .going ≡ true) ⌝ }
-    ensures { λ r. ⌜ Fits (now (input .exit)) (now (output .exit)) r × Stands (now (store .exit)) (now (reply .exit)) (now (input .exit)) r ⌝ }
+    requires { ⌜ Fits (now input) (now output) state × (state .going ≡ true) ⌝ }
+    ensures within { λ r. ⌜ Fits (now (input .exit)) (now (output .exit)) r ⌝ }
+    ensures called { λ r. ⌜ TurnIsOneCall
+        (now (store .entry)) (now (reply .entry)) (now (input .entry)) state
+        (now (store .exit)) (now (reply .exit)) (now (input .exit)) r ⌝ }
 {
     let at = state.at;
     let end = state.end;
-    let ended = state.ended;
-    let progress = advance(store, state.clock, &input[at..end], ended, reply, output);
-    let clock = progress.clock;
+    let progress = advance(
+        store,
+        state.clock,
+        &input[at..end],
+        state.ended,
+        reply,
+        output,
+    );
     let filled = progress.filled;
-    let left = at + progress.taken;
-    let stopped = State {
-        clock,
-        at: left,
-        end,
-        ended,
-        going: false,
-    };
-    if !io::write_all(STDOUT_FILENO, &output[0..filled]) {
-        return stopped;
+    if io::write_all(STDOUT_FILENO, &output[0..filled]) {
+        return go_on(input, state, progress);
     }
-    let next = progress.next;
-    match next {
-        Next::Read => refill(input, clock, left, end),
-        Next::Write => State {
-            clock,
-            at: left,
-            end,
-            ended,
-            going: true,
-        },
-        Next::Stop => stopped,
-    }
+    past(state, progress, false)
 }
 
 // A proved loop has to end, and nothing says that the input does, so the turns are counted down from a number that no run uses up.

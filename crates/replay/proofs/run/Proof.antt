@@ -1,14 +1,14 @@
 use borrow.Author.Needs.{needs}
 use mathlib.Core.Path.{_≡_, refl, sym, _∙_}
 use lib.ListN.{length}
-use Rattle.replay.specs.State.{Fits, Stands}
-use Rattle.replay.proofs.Standing.{stands-first}
+use Rattle.replay.specs.State.{Fits, oneMore}
+use Rattle.replay.proofs.Standing.{Reached, nothing, stands-first, fits-first}
 use Rattle.replay.proofs.run.Statement.{statement}
 use Rattle.replay.proofs.run.Tie as tie
 
 abbrev Inv-loop : tie.InvT-loop
 Inv-loop store₀ reply₀ input₀ output₀ state₀ turns₀ store reply input output state turns =
-    (Fits input output state × Stands store reply input state) × (length store ≡ length store₀) × (length reply ≡ length reply₀)
+    Fits input output state × Reached store reply input state × (length store ≡ length store₀) × (length reply ≡ length reply₀)
 
 abbrev μ-loop : tie.MeasureT-loop
 μ-loop store₀ reply₀ input₀ output₀ state₀ turns₀ store reply input output state turns = turns
@@ -24,13 +24,13 @@ fresh-requires c κs = search needs
 
 loop-holds : tie.Need-loop-holds Inv-loop μ-loop
 loop-holds c =
-    let entry = c .before .before .before .before .before in (
-      stands-first (entry .args .store .now) (entry .args .reply .now) (c .before .before .large-buffer .result) (c .before .large-buffer2 .result)
-          (c .fresh .result)
-          (entry .pre .0) (entry .pre .1) (c .fresh .ensures) (sym (c .before .before .large-buffer .ensures)) (sym (c .before .large-buffer2 .ensures)),
-      refl,
-      refl,
-    )
+    let entry = c .before .before .before .before .before in
+    let a = entry .args in
+    let i = c .before .before .large-buffer in
+    let o = c .before .large-buffer2 in
+    let s = stands-first (a .store .now) (a .reply .now) (i .result) (c .fresh .result) (entry .pre .0) (entry .pre .1) (c .fresh .ensures) in
+    let f = fits-first (i .result) (o .result) (c .fresh .result) (sym (i .ensures)) (sym (o .ensures)) in
+    (f, record { history = nothing; stands = s }, refl, refl)
 
 slice-aggregate-turn : tie.Need-slice-aggregate-turn Inv-loop μ-loop
 slice-aggregate-turn c = search needs
@@ -39,9 +39,7 @@ slice-aggregate-turn-2 : tie.Need-slice-aggregate-turn-2 Inv-loop μ-loop
 slice-aggregate-turn-2 c = search needs
 
 turn-requires : tie.Need-turn-requires Inv-loop μ-loop
-turn-requires c κs =
-    let l = c .before .before .before .before .before .before .loop in
-    (l .inv .0 .0, l .inv .0 .1, c .before .before .before .before .if1 .taken)
+turn-requires c κs = (c .before .before .before .before .before .before .loop .inv .0, c .before .before .before .before .if1 .taken)
 
 sub-turns : tie.Need-sub-turns Inv-loop μ-loop
 sub-turns c = search needs
@@ -53,7 +51,12 @@ loop-again : tie.Need-loop-again Inv-loop μ-loop
 loop-again c =
     let l = c .before .before .before .before .before .before .before .before .before .before .before .before .before .loop in
     let made = c .before .before .before .before .before .before .turn in
-    (made .ensures, made .kept .0 ∙ l .inv .1, made .kept .1 .0 ∙ l .inv .2)
+    let s = made .ensures .1 (l .inv .1 .history) (l .inv .1 .stands) in (
+      made .ensures .0,
+      record { history = oneMore (l .state .ended) (l .inv .1 .history) (s .0); stands = s .1 },
+      made .kept .0 ∙ l .inv .2,
+      made .kept .1 .0 ∙ l .inv .3,
+    )
 
 same-length : tie.Need-same-length Inv-loop μ-loop
 same-length c = search needs
