@@ -22,20 +22,9 @@ pub struct Pool {
 }
 
 impl Pool {
-    /// Proves the crates as they stand, copies the repository once for each core, and checks each crate once.
+    /// Proves what the crates use, copies the repository once for each core, and checks each crate once.
     pub fn new(repository: &Repository, crates: &[String], cores: usize) -> Result<Pool, String> {
-        let proved = Command::new("rt")
-            .arg("check")
-            .args(crates)
-            .current_dir(&repository.root)
-            .output();
-        let proved = proved.map_err(|e| format!("rt check: {e}"))?;
-        if !proved.status.success() {
-            return Err(format!(
-                "not proved as it stands:\n{}",
-                String::from_utf8_lossy(&proved.stdout)
-            ));
-        }
+        prove(repository, &repository.used_by(crates))?;
         let below = repository.root.join("target/mutants");
         let place = |k: usize| {
             let (root, bases): (PathBuf, PathBuf) =
@@ -49,7 +38,10 @@ impl Pool {
         let mut pool = Pool {
             workplaces: workplaces.map_err(|e| format!("copy of the repository: {e}"))?,
         };
-        pool.make_bases(crates)?;
+        // the largest first, so that no core waits long for another at the end
+        let mut order = crates.to_vec();
+        order.sort_by_key(|name| std::cmp::Reverse(repository.weight(name)));
+        pool.make_bases(&order)?;
         Ok(pool)
     }
 
@@ -113,4 +105,21 @@ impl Pool {
             .map(|r| r.expect("each job was done"))
             .collect()
     }
+}
+
+fn prove(repository: &Repository, crates: &[String]) -> Result<(), String> {
+    if crates.is_empty() {
+        return Ok(());
+    }
+    let mut command = Command::new("rt");
+    command
+        .arg("check")
+        .args(crates)
+        .current_dir(&repository.root);
+    let proved = command.output().map_err(|e| format!("rt check: {e}"))?;
+    if proved.status.success() {
+        return Ok(());
+    }
+    let said = String::from_utf8_lossy(&proved.stdout);
+    Err(format!("not proved as it stands:\n{said}"))
 }

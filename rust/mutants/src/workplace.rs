@@ -31,7 +31,9 @@ impl Workplace {
             fs::remove_dir_all(&root)?;
         }
         for part in ["crates", "target/rlib", "target/stamp", "target/log"] {
-            copy_folder(&from.join(part), &root.join(part))?;
+            if from.join(part).exists() {
+                copy_folder(&from.join(part), &root.join(part))?;
+            }
         }
         fs::copy(from.join("crates.txt"), root.join("crates.txt"))?;
         Ok(Workplace {
