@@ -26,6 +26,7 @@ test:
 	@$(MAKE) --no-print-directory proved
 	@$(MAKE) --no-print-directory -j2 reference library
 	@$(MAKE) --no-print-directory lint expected tails replayed compared
+	@$(MAKE) --no-print-directory wrong-answers
 	@rt fmt --check
 	@rt ci
 
