@@ -1,6 +1,7 @@
 -- What stands at the front of some bytes, and what more bytes make of it.
 use mathlib.Core.Path.{_≡_, refl, sym, ap, _∙_}
-use mathlib.Core.Bool.{true, false, _||_}
+use mathlib.Core.Logic.{_⊎_, inl, inr}
+use mathlib.Core.Bool.{Bool, true, false, _||_}
 use mathlib.Core.List.{List, _++_}
 use Prim.Native.Nat.{ℕ, _+_, _≤_, _<_}
 use native.Mathlib.Omega.{arith}
@@ -64,6 +65,9 @@ module _ (s : List ℕ) where
       (λ b h. never (cc))
       (λ k h. (k, (cc)))
       (λ w h. never (cc))
+
+  pub refusal-number : (more : Bool) (n : ℕ) → pieceOf s ≡ noRecord more n → (n ≡ 0) ⊎ (n ≡ 3)
+  refusal-number more n = piece-cases (λ p. p ≡ noRecord more n → (n ≡ 0) ⊎ (n ≡ 3)) (λ z h. inl (cc)) (λ b h. inr (cc)) (λ k h. inr (cc)) (λ w h. never (cc))
 
 pub begun-is-short : BegunIsShort
 begun-is-short s n = piece-cases s (λ p. p ≡ noRecord true n → length s < 606)

@@ -1,5 +1,6 @@
 -- A journal's records.
 use mathlib.Core.Path.{_≡_, refl, sym, ap, ap₂, _∙_}
+use mathlib.Core.Logic.{_⊎_, inl}
 use mathlib.Core.Bool.{Bool, false}
 use mathlib.Core.List.{List, [], _∷_, _++_, append-assoc}
 use Prim.Native.Nat.{ℕ, zero, suc, _+_, _-_, _≤_}
@@ -12,9 +13,9 @@ use Rattle.wire.proofs.Number.{length-be, num-be}
 use Rattle.wire.proofs.Fill.{field-here, field-past}
 use Rattle.journal.specs.Journal.{Piece, whole, noRecord, timeIn, lenIn, pieceOf}
 use Rattle.journal.specs.Journal.{TimedFrame, Journal, recordAt, following, readOn, journalWithin, journalOf}
-use Rattle.journal.specs.Meaning.{ReadRecordByRecord, InRange, bytesOf, RecordsReadBack}
+use Rattle.journal.specs.Meaning.{ReadRecordByRecord, RefusalIs0Or3, InRange, bytesOf, RecordsReadBack}
 use Rattle.journal.proofs.Cutting.{cut-end}
-use Rattle.journal.proofs.Pieces.{has-whole, whole-within, field-front, more-bytes-keep}
+use Rattle.journal.proofs.Pieces.{has-whole, whole-within, field-front, refusal-number, more-bytes-keep}
 
 -- ---- the bound
 -- two ways to read on agree if they do behind a whole record
@@ -43,6 +44,20 @@ read-record-by-record s =
     within-alike (length s) (suc (length s)) s (omega arith) (omega arith)
     ∙ read-alike (journalWithin (length s)) journalOf s (λ t e h.
     within-alike (length s) (length (drop e s)) (drop e s) (omega (arith, length-drop e s)) (omega arith))
+
+refusal-within : (n : ℕ) (s : List ℕ) → (journalWithin n s .refusal ≡ 0) ⊎ (journalWithin n s .refusal ≡ 3)
+unfolding journalWithin readOn following
+refusal-within zero s = inl refl
+refusal-within (suc n) s = go (refusal-within n) (pieceOf s) refl
+  where
+    go : ((r : List ℕ) → (journalWithin n r .refusal ≡ 0) ⊎ (journalWithin n r .refusal ≡ 3)) → (p : Piece) → pieceOf s ≡ p
+        → (readOn (journalWithin n) s p .refusal ≡ 0) ⊎ (readOn (journalWithin n) s p .refusal ≡ 3)
+    go ih (whole t e) h = ih (drop e s)
+    go ih (noRecord more k) h = refusal-number s more k h
+
+pub refusal-is-0-or-3 : RefusalIs0Or3
+unfolding journalOf
+refusal-is-0-or-3 s = refusal-within (length s) s
 
 -- the two cases
 module _ (s : List ℕ) where

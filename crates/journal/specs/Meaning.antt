@@ -1,6 +1,7 @@
 -- What an auditor would ask of journals.
 use Prim.Native.Nat.{ℕ, _+_, _^_, _≤_, _<_}
 use mathlib.Core.Path.{_≡_}
+use mathlib.Core.Logic.{_⊎_}
 use mathlib.Core.Bool.{true, false}
 use mathlib.Core.List.{List, [], _∷_, _++_}
 use lib.ListN.{length}
@@ -11,6 +12,10 @@ use Rattle.journal.specs.Journal.{whole, noRecord, pieceOf, TimedFrame, 
 -- a journal is its first record and the journal behind it: the bound on the number of records is never met
 abbrev pub ReadRecordByRecord : Type 0
 ReadRecordByRecord = (s : List ℕ) → journalOf s ≡ readOn journalOf s (pieceOf s)
+
+-- what stands behind the last record is refused with 3, if at all
+abbrev pub RefusalIs0Or3 : Type 0
+RefusalIs0Or3 = (s : List ℕ) → (journalOf s .refusal ≡ 0) ⊎ (journalOf s .refusal ≡ 3)
 
 -- ---- what is written reads back
 -- the frame has the length that its LEN says, and LEN and the time are in range

@@ -1,2 +1,2 @@
 pub mod Moving
-pub mod Standing
+pub mod Turns

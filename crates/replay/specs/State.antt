@@ -9,7 +9,7 @@ use Rattle.clock.specs.declared.Clock.{Clock}
 use Rattle.replayer.specs.declared.Next.{Next}
 use Rattle.replayer.specs.declared.Next.the-variants.{Read, Write, Stop}
 use Rattle.replayer.specs.declared.Progress.{Progress}
-use Rattle.replayer.specs.Meaning.{Call, isStop, ended}
+use Rattle.replayer.specs.Meaning.{Call, isStop, drained}
 use Rattle.replay.specs.declared.State.{State}
 
 -- the buffers have 65,536 bytes, and the input that is not yet taken lies within its own
@@ -35,11 +35,11 @@ oneMore ended h more = record {
 
 -- the program stands where the calls have left it, with what came since
 pub record Stands (h : History) (store reply input : List ℕ) (s : State) : Type 0 where
-  pub kept-is : ended (h .calls) (h .rooms) .kept ≡ record { store = store; clock = s .clock; reply = reply }
-  pub rest-is : ended (h .calls) (h .rooms) .rest ++ h .came ≡ take (s .end - s .at) (drop (s .at) input)
+  pub kept-is : drained (h .calls) (h .rooms) .kept ≡ record { store = store; clock = s .clock; reply = reply }
+  pub rest-is : drained (h .calls) (h .rooms) .rest ++ h .came ≡ take (s .end - s .at) (drop (s .at) input)
   pub open-ended : s .ended ≡ false → h .rooms ≡ []
   pub no-more : s .ended ≡ true → h .came ≡ []
-  pub goes : s .going ≡ true → isStop (ended (h .calls) (h .rooms) .next) ≡ false
+  pub goes : s .going ≡ true → isStop (drained (h .calls) (h .rooms) .next) ≡ false
 
 -- a turn is one call, and reading what more came
 abbrev pub TurnIsOneCall : List ℕ → List ℕ → List ℕ → State → List ℕ → List ℕ → List ℕ → State → Type 0

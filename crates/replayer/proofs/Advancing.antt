@@ -1,5 +1,5 @@
 -- Turn after turn.
-use mathlib.Core.Path.{_≡_, refl, sym, _∙_}
+use mathlib.Core.Path.{_≡_, refl, sym, ap, _∙_}
 use mathlib.Core.Bool.{Bool, true, false, cond, not, _&&_}
 use mathlib.Core.List.{List, []}
 use Prim.Native.Nat.{ℕ, zero, suc, _+_, _-_, _≤_, _<_}
@@ -83,6 +83,20 @@ module _ (ended : Bool) (input : List ℕ) where
         (λ k h e. stops-there m n (waiting p) refl)
         (λ more k h e. stops-there m n (stopped p k) refl)))
         (λ g. rw g)
+
+    stopped-there : (n : ℕ) (p : Replay) → isWrite (p .next) ≡ false → goesOn room (advanceWithin n ended input room p) ≡ false
+    unfolding goesOn
+    stopped-there n p h = ap (goesOn room) (advance-rests n p (rw h)) ∙ rw h
+
+    pub advance-ends : (n : ℕ) (p : Replay) → p .taken ≤ length input → length input - p .taken < n → goesOn room (advanceWithin n ended input room p) ≡ false
+    unfolding advanceWithin answered waiting stopped
+    advance-ends zero p l a = absurd (omega arith)
+    advance-ends (suc n) p l a = cases (goesOn room p)
+        (λ g. rw g (turn-cases (λ q. goesOn room (advanceWithin n ended input room q) ≡ false) p l
+        (λ t e h x y. advance-ends n (answered p (recordAt t e (drop (p .taken) input)) e) y (omega arith))
+        (λ k h e. stopped-there n (waiting p) refl)
+        (λ more k h e. stopped-there n (stopped p k) refl)))
+        (λ g. rw g g)
 
     -- one turn more
     pub advance-on : (p : Replay) → p .taken ≤ length input → goesOn room p ≡ true

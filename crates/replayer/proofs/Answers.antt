@@ -9,7 +9,8 @@ use lib.Dec.{ltb}
 use borrow.Author.Tests.{ltb-false}
 use Rattle.wire.proofs.Tests.{cases}
 use Rattle.clock.specs.declared.Clock.{Clock}
-use Rattle.frame.specs.Message.{err}
+use Rattle.frame.specs.Message.{Message, err}
+use Rattle.frame.specs.Reading.{message, readFrame}
 use Rattle.frame.specs.Layout.{frameOf}
 use Rattle.node.specs.Handler.{Served, done, refused, serveFrame, over, settle, handled}
 use Rattle.node.specs.declared.Handled.{Handled}
@@ -17,7 +18,6 @@ use Rattle.node.specs.Answer.{Handles}
 use Rattle.node.proofs.Telling.{reply-at-most-600, reply-reads-back}
 use Rattle.journal.specs.Journal.{TimedFrame}
 use Rattle.replayer.specs.Replies.{Kept, answer, after, replyTo}
-use Rattle.replayer.specs.Meaning.{EachReplyIsAFrame}
 
 module _ (s : List ℕ) (c : Clock) (t : ℕ) (f b : List ℕ) where
   pub written-within : handled s c t f b .written ≤ length b
@@ -52,12 +52,11 @@ module _ (k : Kept) (r : TimedFrame) where
   unfolding replyTo answer
   reply-short = rw length-take (omega (arith, reply-at-most-600 (k .store) (k .clock) (r .time) (r .frame) (k .reply)))
 
-pub each-reply-is-a-frame : EachReplyIsAFrame
-unfolding replyTo after answer
-each-reply-is-a-frame k r h =
-    let b = reply-reads-back (k .store) (k .clock) (r .time) (r .frame) (k .reply) h in
-    record {
-      says = b .says;
-      reads = b .reads;
-      room = omega (arith, reply-long (k .store) (k .clock) (r .time) (r .frame) (k .reply));
-    }
+  -- a reply is a frame where it has room, and so has the next one
+  pub reply-reads : 600 ≤ length (k .reply) → (m : Message) × (readFrame (replyTo k r) ≡ message m)
+  unfolding replyTo answer
+  reply-reads h = let b = reply-reads-back (k .store) (k .clock) (r .time) (r .frame) (k .reply) h in (b .says, b .reads)
+
+  pub room-kept : 600 ≤ length (k .reply) → 600 ≤ length (after k r .reply)
+  unfolding after answer
+  room-kept h = omega (arith, reply-long (k .store) (k .clock) (r .time) (r .frame) (k .reply))

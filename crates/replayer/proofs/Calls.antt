@@ -2,7 +2,7 @@
 use mathlib.Core.Path.{_≡_}
 use mathlib.Core.Bool.{Bool, true, false}
 use mathlib.Core.List.{List, []}
-use Prim.Native.Nat.{ℕ, _-_, _≤_}
+use Prim.Native.Nat.{ℕ, suc, _-_, _≤_}
 use native.Mathlib.Omega.{arith}
 use lib.ListN.{length, drop}
 use lib.Dec.{leb}
@@ -13,8 +13,8 @@ use Rattle.journal.proofs.Pieces.{never, begun-is-short}
 use Rattle.replayer.specs.declared.Next.the-variants.{Read, Write}
 use Rattle.replayer.specs.Replies.{Kept}
 use Rattle.replayer.specs.Advance.{Replay, answered, waiting, stopped, turn, isWrite, goesOn, advanceWithin, advanced}
-use Rattle.replayer.specs.Meaning.{Within, CallsStayWithin, CallsGetOn, ReadsForARecord}
-use Rattle.replayer.proofs.Advancing.{turn-cases, turn-moves, advance-keeps, advanced-keeps}
+use Rattle.replayer.specs.Meaning.{CallsGoOn, Within, CallsStayWithin, CallsGetOn, ReadsForARecord}
+use Rattle.replayer.proofs.Advancing.{turn-cases, turn-moves, advance-keeps, advanced-keeps, advance-ends}
 
 -- a turn is made only where the last one was, and any reply has room
 pub goes-on : (room : ℕ) (p : Replay) → goesOn room p ≡ true → (isWrite (p .next) ≡ true) × (600 ≤ room - length (p .output))
@@ -24,6 +24,11 @@ goes-on room p g = let a = and-true (isWrite (p .next)) (leb 600 (room - length 
 starts : (room : ℕ) (k : Kept) → 600 ≤ room → goesOn room (record { kept = k; taken = 0; output = []; next = Write }) ≡ true
 unfolding goesOn
 starts room k r = le-leb 600 (room - 0) (omega arith)
+
+pub calls-go-on : CallsGoOn
+unfolding advanced
+calls-go-on ended input room k =
+    advance-ends ended input room (suc (length input)) (record { kept = k; taken = 0; output = []; next = Write }) (omega arith) (omega arith)
 
 pub calls-stay-within : CallsStayWithin
 calls-stay-within ended input room k = advanced-keeps ended input room (Within input room) step k

@@ -13,7 +13,7 @@ use Rattle.replayer.specs.declared.Next.{Next}
 use Rattle.replayer.specs.declared.Next.the-variants.{Read, Write, Stop}
 use Rattle.replayer.specs.Replies.{Kept, start, repliesTo, lastReply, repliesFrom, replies}
 use Rattle.replayer.specs.Advance.{Replay, advanced}
-use Rattle.replayer.specs.Meaning.{Standing, Call, written, isStop, called, calledAll}
+use Rattle.replayer.specs.Meaning.{Stream, Call, afterCall, isStop, called, calledAll}
 use Rattle.replayer.specs.Meaning.{fed, noMore, arrived, AnyPieces, AllHaveRoom, Stops, AnsweredBeforeReading}
 use Rattle.replayer.specs.Meaning as meaning
 use Rattle.replayer.proofs.Calls.{read-begun, calls-stay-within, calls-get-on, reads-for-a-record}
@@ -51,14 +51,14 @@ shut-on ended k₀ k a c rest out Stop clear h o = λ more m. ap (told lastReply
 
 -- ---- call by call
 -- what holds between two calls, where a has come
-record Stood (ended : Bool) (a : List ℕ) (s : Standing) : Type 0 where
+record Stood (ended : Bool) (a : List ℕ) (s : Stream) : Type 0 where
   owed : Owed ended start a (s .next) (s .kept) (s .rest) (s .written)
   begun : s .next ≡ Read → (n : ℕ) × (pieceOf (s .rest) ≡ noRecord true n)
   short : length (s .rest) ≤ length a
 
-module _ (ended : Bool) (a : List ℕ) (s : Standing) (c : Call) (w : Stood ended a s) (clear : ended ≡ true → c .came ≡ []) where
+module _ (ended : Bool) (a : List ℕ) (s : Stream) (c : Call) (w : Stood ended a s) (clear : ended ≡ true → c .came ≡ []) where
   stood-call : Stood ended (a ++ c .came) (called ended s c)
-  unfolding called written
+  unfolding called afterCall
   stood-call =
       let input = s .rest ++ c .came in
       let x = advanced ended input (c .room) (s .kept) in
@@ -77,7 +77,7 @@ module _ (ended : Bool) (a : List ℕ) (s : Standing) (c : Call) (w : Stood ende
         short = omega (arith, w .short, length-append a (c .came), length-append (s .rest) (c .came), length-drop (x .taken) input);
       }))
 
-stood-fed : (cs : List Call) (a : List ℕ) (s : Standing) → Stood false a s → Stood false (a ++ arrived cs) (calledAll false s cs)
+stood-fed : (cs : List Call) (a : List ℕ) (s : Stream) → Stood false a s → Stood false (a ++ arrived cs) (calledAll false s cs)
 unfolding arrived calledAll
 stood-fed [] a s w = rw append-nil w
 stood-fed (c ∷ cs) a s w =
@@ -94,15 +94,15 @@ ends-owed a Read k rest out o = o
 ends-owed a Write k rest out o = o
 ends-owed a Stop k rest out o = λ more m. o more (λ t. never (cc))
 
-stood-ended : (ns : List ℕ) (a : List ℕ) (s : Standing) → Stood true a s → Stood true a (calledAll true s (map noMore ns))
+stood-ended : (ns : List ℕ) (a : List ℕ) (s : Stream) → Stood true a s → Stood true a (calledAll true s (map noMore ns))
 unfolding calledAll
 stood-ended [] a s w = w
 stood-ended (n ∷ ns) a s w =
     stood-ended ns a (called true s (noMore n)) (rw append-nil at (stood-call true a s (noMore n) w (λ t. refl)))
 
-ended-stands : (calls : List Call) (rooms : List ℕ) → Stood true (arrived calls) (meaning.ended calls rooms)
-unfolding meaning.ended
-ended-stands calls rooms =
+drained-stands : (calls : List Call) (rooms : List ℕ) → Stood true (arrived calls) (meaning.drained calls rooms)
+unfolding meaning.drained
+drained-stands calls rooms =
     let w = fed-stands calls in
     let s = fed calls in
     stood-ended rooms (arrived calls) s (record {
@@ -119,8 +119,8 @@ stop-told a n k rest out e o = sym ((rw e at o) [] (λ t. refl)) ∙ ap (told la
 pub any-pieces : AnyPieces
 unfolding replies repliesFrom told
 any-pieces calls rooms h =
-    let s = meaning.ended calls rooms in
-    stop-told (arrived calls) (s .next) (s .kept) (s .rest) (s .written) h (ended-stands calls rooms .owed)
+    let s = meaning.drained calls rooms in
+    stop-told (arrived calls) (s .next) (s .kept) (s .rest) (s .written) h (drained-stands calls rooms .owed)
 
 read-told : (a : List ℕ) (n : Next) (k : Kept) (rest out : List ℕ) (m : ℕ) → n ≡ Read → Owed false start a n k rest out → pieceOf rest ≡ noRecord true m
     → out ≡ repliesTo start (journalOf a .records)
@@ -139,7 +139,7 @@ answered-before-reading calls h =
     read-told (arrived calls) (s .next) (s .kept) (s .rest) (s .written) (b .0) h (w .owed) (b .1)
 
 -- ---- it stops
-stop-stays : (ns : List ℕ) (s : Standing) → s .next ≡ Stop → calledAll true s (map noMore ns) .next ≡ Stop
+stop-stays : (ns : List ℕ) (s : Stream) → s .next ≡ Stop → calledAll true s (map noMore ns) .next ≡ Stop
 unfolding calledAll called
 stop-stays [] s h = h
 stop-stays (n ∷ ns) s h = stop-stays ns (called true s (noMore n)) (rw stopped h)
@@ -147,9 +147,9 @@ stop-stays (n ∷ ns) s h = stop-stays ns (called true s (noMore n)) (rw stopped
     stopped : isStop (s .next) ≡ true
     stopped = ap isStop h
 
-shorter-or-stopped : (s : Standing) (n : ℕ) → 600 ≤ n → isStop (s .next) ≡ false
+shorter-or-stopped : (s : Stream) (n : ℕ) → 600 ≤ n → isStop (s .next) ≡ false
     → (called true s (noMore n) .next ≡ Stop) ⊎ (length (called true s (noMore n) .rest) < length (s .rest))
-unfolding called written
+unfolding called afterCall
 shorter-or-stopped s n r h = rw h (go (x .next) refl)
   where
     input : List ℕ
@@ -166,7 +166,7 @@ shorter-or-stopped s n r h = rw h (go (x .next) refl)
         let w = calls-stay-within true input n (s .kept) in
         inr (omega (arith, w .input-left, length-drop (x .taken) input, length-append (s .rest) []))
 
-stops-soon : (ns : List ℕ) (s : Standing) → AllHaveRoom ns → length (s .rest) < length ns → calledAll true s (map noMore ns) .next ≡ Stop
+stops-soon : (ns : List ℕ) (s : Stream) → AllHaveRoom ns → length (s .rest) < length ns → calledAll true s (map noMore ns) .next ≡ Stop
 unfolding calledAll
 stops-soon [] s r l = absurd (omega arith)
 stops-soon (n ∷ ns) s r l = cases (isStop (s .next))
@@ -177,11 +177,11 @@ stops-soon (n ∷ ns) s r l = cases (isStop (s .next))
     ])
 
 pub stops : Stops
-unfolding meaning.ended
+unfolding meaning.drained
 stops calls rooms r l = stops-soon rooms (fed calls) r (omega (arith, fed-stands calls .short))
 
 -- ---- one call more
-called-more : (cs : List Call) (ended : Bool) (s : Standing) (c : Call) → calledAll ended s (cs ++ (c ∷ [])) ≡ called ended (calledAll ended s cs) c
+called-more : (cs : List Call) (ended : Bool) (s : Stream) (c : Call) → calledAll ended s (cs ++ (c ∷ [])) ≡ called ended (calledAll ended s cs) c
 unfolding calledAll
 called-more [] ended s c = refl
 called-more (d ∷ cs) ended s c = called-more cs ended (called ended s d) c
@@ -194,10 +194,11 @@ map-more : (ns : List ℕ) (n : ℕ) → map noMore (ns ++ (n ∷ [])) ≡ map n
 map-more [] n = refl
 map-more (m ∷ ns) n = ap (λ (l : List Call). noMore m ∷ l) (map-more ns n)
 
-pub ended-more : (calls : List Call) (rooms : List ℕ) (n : ℕ) → meaning.ended calls (rooms ++ (n ∷ [])) ≡ called true (meaning.ended calls rooms) (noMore n)
-unfolding meaning.ended
-ended-more calls rooms n = rw map-more (called-more (map noMore rooms) true (fed calls) (noMore n))
+pub drained-more : (calls : List Call) (rooms : List ℕ) (n : ℕ) → meaning.drained calls (rooms ++ (n ∷ [])) ≡ called true
+    (meaning.drained calls rooms) (noMore n)
+unfolding meaning.drained
+drained-more calls rooms n = rw map-more (called-more (map noMore rooms) true (fed calls) (noMore n))
 
-pub ended-none : (calls : List Call) → meaning.ended calls [] ≡ fed calls
-unfolding meaning.ended calledAll
-ended-none calls = refl
+pub drained-none : (calls : List Call) → meaning.drained calls [] ≡ fed calls
+unfolding meaning.drained calledAll
+drained-none calls = refl

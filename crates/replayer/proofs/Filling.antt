@@ -43,7 +43,7 @@ pub length-err : (n : ℕ) → length (frameOf (err n)) ≡ 9
 unfolding frameOf typeOf body
 length-err n = length-envelope (typeOf (err n)) (body (err n)) ∙ ap (λ (k : ℕ). k + 8) (length-be 1 n)
 
-err-3-taken : messageRefusal (err 3) ≡ 0
+pub err-3-taken : messageRefusal (err 3) ≡ 0
 err-3-taken = let e : _≡_ {A = ℕ} 3 0 → ⊥ = omega arith in err-taken 3 e (omega arith)
 
 pub err-put : (a : ℕ) (o ys : List ℕ) → a + 600 ≤ length o → ys ≡ afterWrite (messageRefusal (err 3)) (frameOf (err 3)) (midOf a (length o - a) o)

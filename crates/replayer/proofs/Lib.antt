@@ -6,3 +6,4 @@ pub mod Running
 pub mod Calls
 pub mod Owing
 pub mod Feeding
+pub mod Frames

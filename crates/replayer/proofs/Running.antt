@@ -13,13 +13,13 @@ use Rattle.wire.proofs.Tests.{and-true}
 use Rattle.clock.specs.declared.Clock.{Clock}
 use Rattle.replayer.specs.declared.Next.the-variants.{Write}
 use Rattle.replayer.specs.declared.Progress.{Progress}
-use Rattle.replayer.specs.Advance.{Replay, turn, isWrite, goesOn, advanceWithin, advanced, standing, Fits, Leaves, Advances}
+use Rattle.replayer.specs.Advance.{Replay, turn, isWrite, goesOn, advanceWithin, advanced, replayOf, Fits, Leaves, Advances}
 use Rattle.replayer.proofs.Filling.{drop-further}
 use Rattle.replayer.proofs.Advancing.{turnsLeft, turn-moves, advance-on, advance-rests}
 
 -- what is left stands for what was stated
-pub leaves-standing : (x : Replay) (o s b o′ : List ℕ) (r : Progress) → Leaves x o r s b o′ → standing s b o′ r ≡ x
-leaves-standing x o s b o′ r l =
+pub leaves-replay : (x : Replay) (o s b o′ : List ℕ) (r : Progress) → Leaves x o r s b o′ → replayOf s b o′ r ≡ x
+leaves-replay x o s b o′ r l =
     let w : take (r .filled) o′ ≡ x .output = rw (l .filled-is, l .output-is) (take-at (x .output) (drop (length (x .output)) o) (length (x .output)) refl) in
     λ i. record {
       kept = record { store = l .store-is i; clock = l .clock-is i; reply = l .reply-is i };
@@ -37,7 +37,7 @@ module _ (store₀ input reply₀ output₀ : List ℕ) (ended : Bool) (clock : 
     pub stores : length store ≡ length store₀
     pub replies : length reply ≡ length reply₀
     pub rest : drop (p .filled) output ≡ drop (p .filled) output₀
-    pub same : advanceWithin (suc (length input - p .taken)) ended input (length output₀) (standing store reply output p)
+    pub same : advanceWithin (suc (length input - p .taken)) ended input (length output₀) (replayOf store reply output p)
         ≡ advanced ended input (length output₀) (record { store = store₀; clock = clock; reply = reply₀ })
 
   pub running-first : Running store₀ reply₀ output₀ (record { clock = clock; taken = 0; filled = 0; next = Write })
@@ -54,7 +54,7 @@ module _ (store₀ input reply₀ output₀ : List ℕ) (ended : Bool) (clock : 
 
   module _ (store reply output : List ℕ) (p : Progress) (i : Running store reply output p) where
     -- the code's test is the definition's
-    test-is : goesOn (length output₀) (standing store reply output p) ≡ (isWrite (p .next) && leb 600 (length output₀ - p .filled))
+    test-is : goesOn (length output₀) (replayOf store reply output p) ≡ (isWrite (p .next) && leb 600 (length output₀ - p .filled))
     unfolding goesOn
     test-is = rw (length-take-le (p .filled) output (omega (arith, i .filled, i .outputs)))
 
@@ -65,13 +65,13 @@ module _ (store₀ input reply₀ output₀ : List ℕ) (ended : Bool) (clock : 
           let n = leb-true 600 (length output₀ - p .filled) (a .1) in
           record { within = i .within; room = omega (arith, i .outputs, i .filled) }
 
-      goes : b ≡ true → goesOn (length output₀) (standing store reply output p) ≡ true
+      goes : b ≡ true → goesOn (length output₀) (replayOf store reply output p) ≡ true
       goes t = test-is ∙ sym e ∙ t
 
       pub running-ends : b ≡ false → Advances store₀ clock input ended reply₀ output₀ p store reply output
       running-ends t =
-          let x : advanced ended input (length output₀) (record { store = store₀; clock = clock; reply = reply₀ }) ≡ standing store reply output p =
-          sym (i .same) ∙ advance-rests ended input (length output₀) (suc (length input - p .taken)) (standing store reply output p) (test-is ∙ sym e ∙ t) in
+          let x : advanced ended input (length output₀) (record { store = store₀; clock = clock; reply = reply₀ }) ≡ replayOf store reply output p =
+          sym (i .same) ∙ advance-rests ended input (length output₀) (suc (length input - p .taken)) (replayOf store reply output p) (test-is ∙ sym e ∙ t) in
           let n : length (take (p .filled) output) ≡ p .filled = length-take-le (p .filled) output (omega (arith, i .filled, i .outputs)) in
           rw x (record {
             store-is = refl;
@@ -84,9 +84,9 @@ module _ (store₀ input reply₀ output₀ : List ℕ) (ended : Bool) (clock : 
           })
 
       module _ (r : Progress) (store′ reply′ output′ : List ℕ)
-          (l : Leaves (turn ended input (standing store reply output p)) output r store′ reply′ output′) where
+          (l : Leaves (turn ended input (replayOf store reply output p)) output r store′ reply′ output′) where
         next : Replay
-        next = turn ended input (standing store reply output p)
+        next = turn ended input (replayOf store reply output p)
 
         -- what was not yet filled is as it came
         rest-kept : length (take (p .filled) output) ≤ length (next .output) → drop (r .filled) output′ ≡ drop (r .filled) output₀
@@ -100,14 +100,14 @@ module _ (store₀ input reply₀ output₀ : List ℕ) (ended : Bool) (clock : 
         module _ (t : b ≡ true) where
           pub running-less : turnsLeft input (r .taken) (r .next) < turnsLeft input (p .taken) (p .next)
           running-less =
-              let m = turn-moves ended input (standing store reply output p) (i .within) in
+              let m = turn-moves ended input (replayOf store reply output p) (i .within) in
               let w = and-true (isWrite (p .next)) (leb 600 (length output₀ - p .filled)) (sym e ∙ t) in
               rw (l .taken-is, l .next-is, w .0) (m .less)
 
           pub running-again : length output′ ≡ length output → length store′ ≡ length store → length reply′ ≡ length reply → Running store′ reply′ output′ r
           unfolding next
           running-again os ss rs =
-              let m = turn-moves ended input (standing store reply output p) (i .within) in
+              let m = turn-moves ended input (replayOf store reply output p) (i .within) in
               let f = running-fits t in
               let n : length (take (p .filled) output) ≡ p .filled = length-take-le (p .filled) output (omega (arith, i .filled, i .outputs)) in
               record {
@@ -117,6 +117,6 @@ module _ (store₀ input reply₀ output₀ : List ℕ) (ended : Bool) (clock : 
                 stores = ss ∙ i .stores;
                 replies = rs ∙ i .replies;
                 rest = rest-kept (m .longer);
-                same = rw (leaves-standing next output store′ reply′ output′ r l, l .taken-is)
-                    (sym (advance-on ended input (length output₀) (standing store reply output p) (i .within) (goes t)) ∙ i .same);
+                same = rw (leaves-replay next output store′ reply′ output′ r l, l .taken-is)
+                    (sym (advance-on ended input (length output₀) (replayOf store reply output p) (i .within) (goes t)) ∙ i .same);
               }

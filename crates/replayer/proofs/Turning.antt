@@ -20,7 +20,7 @@ use Rattle.replayer.specs.declared.Next.{Next}
 use Rattle.replayer.specs.declared.Next.the-variants.{Read, Write, Stop}
 use Rattle.replayer.specs.declared.Progress.{Progress}
 use Rattle.replayer.specs.Replies.{answer, after, replyTo, lastReply}
-use Rattle.replayer.specs.Advance.{answered, waiting, stopped, turnOn, turn, standing, withNext, Fits, Leaves}
+use Rattle.replayer.specs.Advance.{answered, waiting, stopped, turnOn, turn, replayOf, withNext, Fits, Leaves}
 use Rattle.replayer.proofs.Filling.{length-err}
 
 -- the bytes of a record's frame, as the code cuts them from the input
@@ -48,7 +48,7 @@ module _ (s b o i : List ℕ) (p : Progress) (f : Fits i o p) where
         → Handles s (p .clock) t (take (p .taken + e - (p .taken + 6)) (drop (p .taken + 6) i)) b h s′ b′
         → filled ≡ p .filled + length (take (h .written - 0) b′)
         → o′ ≡ take (p .filled) o ++ take (h .written - 0) b′ ++ drop (p .filled + length (take (h .written - 0) b′)) o
-        → Leaves (answered (standing s b o p) (recordAt t e (drop (p .taken) i)) e) o
+        → Leaves (answered (replayOf s b o p) (recordAt t e (drop (p .taken) i)) e) o
         (record { clock = h .clock; taken = p .taken + e; filled = filled; next = Write }) s′ b′ o′
     unfolding answered after replyTo answer recordAt
     answer-leaves h s′ b′ o′ filled g n u =
@@ -67,7 +67,7 @@ module _ (s b o i : List ℕ) (p : Progress) (f : Fits i o p) where
 
   -- nothing was put there
   same-leaves : (n : Next) (w : List ℕ) → w ≡ take (p .filled) o
-      → Leaves (record { kept = standing s b o p .kept; taken = p .taken; output = w; next = n }) o (withNext (p .filled) n p) s b o
+      → Leaves (record { kept = replayOf s b o p .kept; taken = p .taken; output = w; next = n }) o (withNext (p .filled) n p) s b o
   same-leaves n w e =
       let l : length (take (p .filled) o) ≡ p .filled = length-take-le (p .filled) o (omega (arith, f .room)) in
       record {
@@ -81,29 +81,29 @@ module _ (s b o i : List ℕ) (p : Progress) (f : Fits i o p) where
       }
 
   module _ (ended : Bool) where
-    turned : (x : Piece) → pieceOf (drop (p .taken) i) ≡ x → turn ended i (standing s b o p) ≡ turnOn ended (standing s b o p) (drop (p .taken) i) x
+    turned : (x : Piece) → pieceOf (drop (p .taken) i) ≡ x → turn ended i (replayOf s b o p) ≡ turnOn ended (replayOf s b o p) (drop (p .taken) i) x
     unfolding turn
-    turned x h = ap (turnOn ended (standing s b o p) (drop (p .taken) i)) h
+    turned x h = ap (turnOn ended (replayOf s b o p) (drop (p .taken) i)) h
 
     pub turn-answers : (t e : ℕ) (s′ b′ o′ : List ℕ) (r : Progress) → pieceOf (drop (p .taken) i) ≡ whole t e
-        → Leaves (answered (standing s b o p) (recordAt t e (drop (p .taken) i)) e) o r s′ b′ o′ → Leaves (turn ended i (standing s b o p)) o r s′ b′ o′
+        → Leaves (answered (replayOf s b o p) (recordAt t e (drop (p .taken) i)) e) o r s′ b′ o′ → Leaves (turn ended i (replayOf s b o p)) o r s′ b′ o′
     unfolding turnOn
     turn-answers t e s′ b′ o′ r h l = rw (turned (whole t e) h) l
 
     module _ (r : Progress) where
       pub turn-waits : (n : ℕ) → pieceOf (drop (p .taken) i) ≡ noRecord true n → ended ≡ false → r ≡ withNext (p .filled) Read p
-          → Leaves (turn ended i (standing s b o p)) o r s b o
+          → Leaves (turn ended i (replayOf s b o p)) o r s b o
       unfolding turnOn waiting
       turn-waits n h w e = rw (turned (noRecord true n) h, w, e) (same-leaves Read (take (p .filled) o) refl)
 
       pub turn-ends : pieceOf (drop (p .taken) i) ≡ noRecord true 0 → ended ≡ true → r ≡ withNext (p .filled) Stop p
-          → Leaves (turn ended i (standing s b o p)) o r s b o
+          → Leaves (turn ended i (replayOf s b o p)) o r s b o
       unfolding turnOn stopped lastReply
       turn-ends h w e = rw (turned (noRecord true 0) h, w, e) (same-leaves Stop (take (p .filled) o ++ []) (append-nil (take (p .filled) o)))
 
       pub turn-stops : (more : Bool) (o′ : List ℕ) → pieceOf (drop (p .taken) i) ≡ noRecord more 3 → more && not ended ≡ false
           → r ≡ withNext (p .filled + 9) Stop p → o′ ≡ take (p .filled) o ++ frameOf (err 3) ++ drop (p .filled + 9) o
-          → Leaves (turn ended i (standing s b o p)) o r s b o′
+          → Leaves (turn ended i (replayOf s b o p)) o r s b o′
       unfolding turnOn stopped lastReply
       turn-stops more o′ h w e u =
           let l : length (frameOf (err 3)) ≡ 9 = length-err 3 in

@@ -53,7 +53,7 @@ unfoldable pub advanceWithin : ℕ → Bool → List ℕ → ℕ → Replay → 
 advanceWithin zero ended input room p = p
 advanceWithin (suc n) ended input room p = cond (goesOn room p) (advanceWithin n ended input room (turn ended input p)) p
 
--- each turn but the last takes bytes
+-- a call makes no more turns than there are bytes, and one: each but the last takes some
 unfoldable pub advanced : Bool → List ℕ → ℕ → Kept → Replay
 advanced ended input room k = advanceWithin (suc (length input)) ended input room (record { kept = k; taken = 0; output = []; next = Write })
 
@@ -74,8 +74,8 @@ Advances store clock input ended reply output r store′ reply′ output′ =
     Leaves (advanced ended input (length output) (record { store = store; clock = clock; reply = reply })) output r store′ reply′ output′
 
 -- the replay that some buffers and a progress stand for
-abbrev pub standing : List ℕ → List ℕ → List ℕ → Progress → Replay
-standing store reply output p = record {
+abbrev pub replayOf : List ℕ → List ℕ → List ℕ → Progress → Replay
+replayOf store reply output p = record {
   kept = record { store = store; clock = p .clock; reply = reply };
   taken = p .taken;
   output = take (p .filled) output;

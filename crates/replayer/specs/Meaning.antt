@@ -1,18 +1,23 @@
 -- What an auditor would ask of the replay.
-use Prim.Native.Nat.{ℕ, _≤_, _<_}
+use Prim.Native.Nat.{ℕ, _+_, _≤_, _<_}
 use mathlib.Core.Path.{_≡_}
 use mathlib.Core.Bool.{Bool, true, false, cond}
 use mathlib.Core.List.{List, [], _∷_, _++_, map}
 use lib.ListN.{length, drop}
+use lib.Dec.{eqb}
 use Rattle.frame.specs.Message.{Message}
 use Rattle.frame.specs.Reading.{message, readFrame}
-use Rattle.journal.specs.Journal.{TimedFrame, journalOf}
+use Rattle.journal.specs.Journal.{journalOf}
 use Rattle.replayer.specs.declared.Next.{Next}
 use Rattle.replayer.specs.declared.Next.the-variants.{Read, Write, Stop}
-use Rattle.replayer.specs.Replies.{Kept, start, after, replyTo, repliesTo, replies}
-use Rattle.replayer.specs.Advance.{Replay, advanced}
+use Rattle.replayer.specs.Replies.{Kept, start, repliesTo, replies}
+use Rattle.replayer.specs.Advance.{Replay, goesOn, advanced}
 
 -- ---- one call
+-- a call goes on until no turn is to be made: the bound on their number is never met
+abbrev pub CallsGoOn : Type 0
+CallsGoOn = (ended : Bool) (input : List ℕ) (room : ℕ) (k : Kept) → goesOn room (advanced ended input room k) ≡ false
+
 -- what is taken and filled lies within the input and the output
 pub record Within (input : List ℕ) (room : ℕ) (x : Replay) : Type 0 where
   pub input-left : x .taken ≤ length input
@@ -33,7 +38,7 @@ ReadsForARecord = (ended : Bool) (input : List ℕ) (room : ℕ) (k : Kept) → 
 
 -- ---- input that comes in pieces
 -- between two calls: what is kept, the input that is not taken, what has been written, and what is to be done
-pub record Standing : Type 0 where
+pub record Stream : Type 0 where
   pub kept : Kept
   pub rest : List ℕ
   pub written : List ℕ
@@ -44,8 +49,9 @@ pub record Call : Type 0 where
   pub came : List ℕ
   pub room : ℕ
 
-unfoldable pub written : Standing → List ℕ → Replay → Standing
-written s input x = record { kept = x .kept; rest = drop (x .taken) input; written = s .written ++ x .output; next = x .next }
+-- what a call has made of the input is kept, and its output is written
+unfoldable pub afterCall : Stream → List ℕ → Replay → Stream
+afterCall s input x = record { kept = x .kept; rest = drop (x .taken) input; written = s .written ++ x .output; next = x .next }
 
 abbrev pub isStop : Next → Bool
 isStop Read = false
@@ -53,23 +59,23 @@ isStop Write = false
 isStop Stop = true
 
 -- a call is made on the input that is left and that came, and its output is written; after a stop none is made
-unfoldable pub called : Bool → Standing → Call → Standing
-called ended s c = cond (isStop (s .next)) s (written s (s .rest ++ c .came) (advanced ended (s .rest ++ c .came) (c .room) (s .kept)))
+unfoldable pub called : Bool → Stream → Call → Stream
+called ended s c = cond (isStop (s .next)) s (afterCall s (s .rest ++ c .came) (advanced ended (s .rest ++ c .came) (c .room) (s .kept)))
 
-unfoldable pub calledAll : Bool → Standing → List Call → Standing
+unfoldable pub calledAll : Bool → Stream → List Call → Stream
 calledAll ended s [] = s
 calledAll ended s (c ∷ cs) = calledAll ended (called ended s c) cs
 
 -- any calls while the input comes
-unfoldable pub fed : List Call → Standing
+unfoldable pub fed : List Call → Stream
 fed calls = calledAll false (record { kept = start; rest = []; written = []; next = Write }) calls
 
 -- then it has ended, and calls are made with outputs of these lengths
 abbrev pub noMore : ℕ → Call
 noMore n = record { came = []; room = n }
 
-unfoldable pub ended : List Call → List ℕ → Standing
-ended calls rooms = calledAll true (fed calls) (map noMore rooms)
+unfoldable pub drained : List Call → List ℕ → Stream
+drained calls rooms = calledAll true (fed calls) (map noMore rooms)
 
 -- the bytes that came
 unfoldable pub arrived : List Call → List ℕ
@@ -78,7 +84,7 @@ arrived (c ∷ cs) = c .came ++ arrived cs
 
 -- in whatever pieces the input comes: once the replay has stopped, the replies to the whole journal have been written
 abbrev pub AnyPieces : Type 0
-AnyPieces = (calls : List Call) (rooms : List ℕ) → ended calls rooms .next ≡ Stop → ended calls rooms .written ≡ replies (arrived calls)
+AnyPieces = (calls : List Call) (rooms : List ℕ) → drained calls rooms .next ≡ Stop → drained calls rooms .written ≡ replies (arrived calls)
 
 -- all of these are outputs with room for any reply
 abbrev pub AllHaveRoom : List ℕ → Type 0
@@ -87,19 +93,28 @@ AllHaveRoom (n ∷ ns) = (600 ≤ n) × AllHaveRoom ns
 
 -- and it has stopped after as many calls as bytes came, and one more
 abbrev pub Stops : Type 0
-Stops = (calls : List Call) (rooms : List ℕ) → AllHaveRoom rooms → length (arrived calls) < length rooms → ended calls rooms .next ≡ Stop
+Stops = (calls : List Call) (rooms : List ℕ) → AllHaveRoom rooms → length (arrived calls) < length rooms → drained calls rooms .next ≡ Stop
 
 -- when more input is asked for, each whole record that has come is answered, so that a caller that waits for an answer gets it
 abbrev pub AnsweredBeforeReading : Type 0
 AnsweredBeforeReading = (calls : List Call) → fed calls .next ≡ Read → fed calls .written ≡ repliesTo start (journalOf (arrived calls) .records)
 
 -- ---- the replies
--- a frame, and nothing else
-pub record Replies (k : Kept) (r : TimedFrame) : Type 0 where
-  pub says : Message
-  pub reads : readFrame (replyTo k r) ≡ message says
-  -- and the next reply has room too
-  pub room : 600 ≤ length (after k r .reply)
+unfoldable pub joined : List (List ℕ) → List ℕ
+joined [] = []
+joined (f ∷ fs) = f ++ joined fs
 
-abbrev pub EachReplyIsAFrame : Type 0
-EachReplyIsAFrame = (k : Kept) (r : TimedFrame) → 600 ≤ length (k .reply) → Replies k r
+-- each of these is the frame of a message
+abbrev pub AllRead : List (List ℕ) → Type 0
+AllRead [] = Unit {0}
+AllRead (f ∷ fs) = ((m : Message) × (readFrame f ≡ message m)) × AllRead fs
+
+-- a reply frame for each record, one more for what stands behind the last if that is refused, and nothing else
+pub record Framed (s : List ℕ) : Type 0 where
+  pub frames : List (List ℕ)
+  pub are : replies s ≡ joined frames
+  pub count : length frames ≡ length (journalOf s .records) + cond (eqb (journalOf s .refusal) 0) 0 1
+  pub read : AllRead frames
+
+abbrev pub OneFrameForEachRecord : Type 0
+OneFrameForEachRecord = (s : List ℕ) → Framed s

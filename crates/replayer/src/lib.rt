@@ -15,7 +15,7 @@ ghost use lib.ListN.{length, take, drop};
 ghost use Rattle.frame.specs.Message.{err};
 ghost use Rattle.frame.specs.Layout.{frameOf};
 ghost use Rattle.journal.specs.Journal.{recordAt};
-ghost use Rattle.replayer.specs.Advance.{isWrite, answered, turn, standing, withNext, Fits, Leaves, Advances};
+ghost use Rattle.replayer.specs.Advance.{isWrite, answered, turn, replayOf, withNext, Fits, Leaves, Advances};
 
 // The refusal of a journal that ends inside a record or has a LEN out of range, and the length of its ERR frame.
 const BAD_FRAME: u8 = 3;
@@ -79,7 +79,7 @@ fn answer(
 ) -> Progress
     requires { ⌜ Fits (now input) (now output) progress × (6 ≤ size) × (progress .taken + size ≤ length (now input)) ⌝ }
     ensures { λ r. ⌜ Leaves
-        (answered (standing (now (store .entry)) (now (reply .entry)) (now (output .entry)) progress)
+        (answered (replayOf (now (store .entry)) (now (reply .entry)) (now (output .entry)) progress)
         (recordAt time size (drop (progress .taken) (now (input .entry)))) size)
         (now (output .entry)) r (now (store .exit)) (now (reply .exit)) (now (output .exit)) ⌝ }
 {
@@ -139,7 +139,7 @@ fn turn(
 ) -> Progress
     requires { ⌜ Fits (now input) (now output) progress ⌝ }
     ensures { λ r. ⌜ Leaves
-        (turn ended (now (input .entry)) (standing (now (store .entry)) (now (reply .entry)) (now (output .entry)) progress))
+        (turn ended (now (input .entry)) (replayOf (now (store .entry)) (now (reply .entry)) (now (output .entry)) progress))
         (now (output .entry)) r (now (store .exit)) (now (reply .exit)) (now (output .exit)) ⌝ }
 {
     let taken = progress.taken;

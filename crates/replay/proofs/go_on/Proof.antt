@@ -1,7 +1,7 @@
 use borrow.Author.Needs.{needs}
 use mathlib.Core.Path.{refl}
 use Rattle.replayer.specs.declared.Next.the-variants.{Read, Write, Stop}
-use Rattle.replay.proofs.Standing.{goes-as}
+use Rattle.replay.proofs.Turns.{goes-as}
 use Rattle.replay.proofs.go_on.Statement.{statement}
 use Rattle.replay.proofs.go_on.Tie as tie
 

@@ -4,7 +4,7 @@ use Prim.Native.Nat.{ℕ}
 use lib.ListN.{replicate, length-replicate}
 use Rattle.wire.specs.Fill.{zeros}
 use Rattle.replayer.specs.Replies.{start}
-use Rattle.replay.proofs.Standing.{created}
+use Rattle.replay.proofs.Turns.{created}
 use Rattle.replay.proofs.main.Statement.{statement}
 use Rattle.replay.proofs.main.Tie as tie
 

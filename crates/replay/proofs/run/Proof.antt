@@ -2,7 +2,7 @@ use borrow.Author.Needs.{needs}
 use mathlib.Core.Path.{_≡_, refl, sym, _∙_}
 use lib.ListN.{length}
 use Rattle.replay.specs.State.{Fits, oneMore}
-use Rattle.replay.proofs.Standing.{Reached, nothing, stands-first, fits-first}
+use Rattle.replay.proofs.Turns.{Reached, nothing, stands-first, fits-first}
 use Rattle.replay.proofs.run.Statement.{statement}
 use Rattle.replay.proofs.run.Tie as tie
 

@@ -1,6 +1,6 @@
 use borrow.Author.Needs.{needs}
 use native.Mathlib.Omega.{arith}
-use Rattle.replay.proofs.Standing.{taken-within, filled-within, can-go-on, turn-goes-on, turn-stops}
+use Rattle.replay.proofs.Turns.{taken-within, filled-within, can-go-on, turn-goes-on, turn-stops}
 use Rattle.replay.proofs.turn.Statement.{statement}
 use Rattle.replay.proofs.turn.Tie as tie
 

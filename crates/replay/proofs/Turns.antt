@@ -19,9 +19,9 @@ use Rattle.replayer.specs.declared.Next.the-variants.{Read, Write, Stop}
 use Rattle.replayer.specs.declared.Progress.{Progress}
 use Rattle.replayer.specs.Replies.{Kept, start}
 use Rattle.replayer.specs.Advance.{Replay, advanced, Advances}
-use Rattle.replayer.specs.Meaning.{Standing, Call, written, isStop, called, calledAll, fed, noMore, ended}
+use Rattle.replayer.specs.Meaning.{Stream, Call, afterCall, isStop, called, calledAll, fed, noMore, drained}
 use Rattle.replayer.proofs.Calls.{calls-stay-within, reads-for-a-record}
-use Rattle.replayer.proofs.Feeding.{fed-more, ended-more, ended-none}
+use Rattle.replayer.proofs.Feeding.{fed-more, drained-more, drained-none}
 use Rattle.replay.specs.declared.State.{State}
 use Rattle.replay.specs.State.{Fits, History, oneMore, Stands, Refilled, pastCall, CanGoOn, GoesOn, TurnIsOneCall}
 
@@ -40,10 +40,10 @@ filled-rest k e at u b h l z =
     let d : k + (e - k) ≡ e = omega arith in
     rw (z, sub-zero, h) (sym (take-add k (e - k) b) ∙ ap (λ (n : ℕ). take n b) d)
 
-called-as : (e : Bool) (i : Standing) (c : Call) (b : List ℕ) (n : ℕ) (k : Kept) → isStop (i .next) ≡ false → i .rest ++ c .came ≡ b → c .room ≡ n
-    → i .kept ≡ k → called e i c ≡ written i b (advanced e b n k)
+called-as : (e : Bool) (i : Stream) (c : Call) (b : List ℕ) (n : ℕ) (k : Kept) → isStop (i .next) ≡ false → i .rest ++ c .came ≡ b → c .room ≡ n
+    → i .kept ≡ k → called e i c ≡ afterCall i b (advanced e b n k)
 unfolding called
-called-as e i c b n k h r m q = rw h (λ j. written i (r j) (advanced e (r j) (m j) (q j)))
+called-as e i c b n k h r m q = rw h (λ j. afterCall i (r j) (advanced e (r j) (m j) (q j)))
 
 module _ (store reply input output : List ℕ) (s : State) (f : Fits input output s) (g : s .going ≡ true) (p : Progress) (store′ reply′ output′ : List ℕ)
     (l : Advances store (s .clock) (take (s .end - s .at) (drop (s .at) input)) (s .ended) reply output p store′ reply′ output′) where
@@ -83,13 +83,13 @@ module _ (store reply input output : List ℕ) (s : State) (f : Fits input outpu
   pub can-go-on : CanGoOn input s p
   can-go-on = record { order = taken-within; within = f .within; room = λ h. omega (arith, read-room h, f .inputs) }
 
-  written-is : (i : Standing) → written i came x ≡ record {
+  written-is : (i : Stream) → afterCall i came x ≡ record {
     kept = record { store = store′; clock = p .clock; reply = reply′ };
     rest = take (s .end - (s .at + p .taken)) (drop (s .at + p .taken) input);
     written = i .written ++ x .output;
     next = p .next;
   }
-  unfolding written x came before
+  unfolding afterCall x came before
   written-is i =
       let r : drop (x .taken) came ≡ take (s .end - (s .at + p .taken)) (drop (s .at + p .taken) input) =
       rw (← (l .taken-is)) (part-left (s .at) (s .end) (p .taken) input taken-within (f .within)) in
@@ -105,32 +105,33 @@ module _ (store reply input output : List ℕ) (s : State) (f : Fits input outpu
 
   -- where the program stands once the call is made
   module _ (h : History) (w : Stands h store reply input s) where
-    after : Standing
+    after : Stream
     after = record {
       kept = record { store = store′; clock = p .clock; reply = reply′ };
       rest = take (s .end - (s .at + p .taken)) (drop (s .at + p .taken) input);
-      written = ended (h .calls) (h .rooms) .written ++ x .output;
+      written = drained (h .calls) (h .rooms) .written ++ x .output;
       next = p .next;
     }
 
     made : Call
     made = record { came = h .came; room = 65536 }
 
-    call-is : called (s .ended) (ended (h .calls) (h .rooms)) made ≡ after
+    call-is : called (s .ended) (drained (h .calls) (h .rooms)) made ≡ after
     unfolding made after came before x
     call-is =
-        let i = ended (h .calls) (h .rooms) in
+        let i = drained (h .calls) (h .rooms) in
         called-as (s .ended) i made came (length output) before (w .goes g) (w .rest-is) (sym (f .outputs)) (w .kept-is) ∙ written-is i
 
-    all-made : (b : Bool) (more : List ℕ) → s .ended ≡ b → ended (oneMore b h more .calls) (oneMore b h more .rooms) ≡ after
+    all-made : (b : Bool) (more : List ℕ) → s .ended ≡ b → drained (oneMore b h more .calls) (oneMore b h more .rooms) ≡ after
     unfolding made
     all-made true more e =
         let c : noMore 65536 ≡ made = λ j. record { came = sym (w .no-more e) j; room = 65536 } in
-        ended-more (h .calls) (h .rooms) 65536 ∙ rw (c, ← e) call-is
+        drained-more (h .calls) (h .rooms) 65536 ∙ rw (c, ← e) call-is
     all-made false more e =
-        let i : fed (h .calls) ≡ ended (h .calls) (h .rooms) = sym (ended-none (h .calls)) ∙ ap (ended (h .calls)) (sym (w .open-ended e)) in
+        let i : fed (h .calls) ≡ drained (h .calls) (h .rooms) = sym (drained-none (h .calls)) ∙ ap (drained (h .calls)) (sym (w .open-ended e)) in
         let z : h .rooms ≡ [] = w .open-ended e in
-        ap (ended (h .calls ++ (made ∷ []))) z ∙ ended-none (h .calls ++ (made ∷ [])) ∙ fed-more (h .calls) made ∙ (λ j. called (sym e j) (i j) made) ∙ call-is
+        ap (drained (h .calls ++ (made ∷ []))) z ∙ drained-none (h .calls ++ (made ∷ [])) ∙ fed-more (h .calls) made ∙
+        (λ j. called (sym e j) (i j) made) ∙ call-is
 
     still-open : (b : Bool) (more : List ℕ) → s .ended ≡ b → b ≡ false → oneMore b h more .rooms ≡ []
     still-open true more e z = clash refl z
@@ -141,11 +142,11 @@ module _ (store reply input output : List ℕ) (s : State) (f : Fits input outpu
     stands-past going n =
         let m = all-made (s .ended) [] refl in
         record {
-          kept-is = ap (λ (i : Standing). i .kept) m;
-          rest-is = append-nil _ ∙ ap (λ (i : Standing). i .rest) m;
+          kept-is = ap (λ (i : Stream). i .kept) m;
+          rest-is = append-nil _ ∙ ap (λ (i : Stream). i .rest) m;
           open-ended = still-open (s .ended) [] refl;
           no-more = λ e. refl;
-          goes = λ e. ap (λ (i : Standing). isStop (i .next)) m ∙ n e;
+          goes = λ e. ap (λ (i : Stream). isStop (i .next)) m ∙ n e;
         }
 
     -- more has been read
@@ -160,11 +161,11 @@ module _ (store reply input output : List ℕ) (s : State) (f : Fits input outpu
           let m = all-made (s .ended) more refl in
           let v = reads-for-a-record (s .ended) came (length output) before (sym (l .next-is) ∙ n) in
           record {
-            kept-is = ap (λ (i : Standing). i .kept) m ∙ (λ j. record { store = store′; clock = sym (q .clock-is) j; reply = reply′ });
-            rest-is = filled-rest k (r .end) (r .at) _ input′ (ap (λ (i : Standing). i .rest) m ∙ sym (q .kept)) (q .longer) (q .at-is);
+            kept-is = ap (λ (i : Stream). i .kept) m ∙ (λ j. record { store = store′; clock = sym (q .clock-is) j; reply = reply′ });
+            rest-is = filled-rest k (r .end) (r .at) _ input′ (ap (λ (i : Stream). i .rest) m ∙ sym (q .kept)) (q .longer) (q .at-is);
             open-ended = λ e. still-open (s .ended) more refl (v .0);
             no-more = λ e. ap (λ (a : ℕ). take a (drop k input′)) (eqb-true (r .end - k) 0 (sym (q .ended-is) ∙ e));
-            goes = λ e. ap (λ (i : Standing). isStop (i .next)) m ∙ ap isStop n;
+            goes = λ e. ap (λ (i : Stream). isStop (i .next)) m ∙ ap isStop n;
           }
 
     stands-on : (n : Next) → p .next ≡ n → (r : State) (input′ : List ℕ) → GoesOn n input s p r input′
@@ -200,7 +201,7 @@ nothing = record { calls = []; rooms = []; came = [] }
 
 pub stands-first : (store reply input : List ℕ) (c : Clock) → store ≡ start .store → reply ≡ start .reply → c ≡ freshClock 1
     → Stands nothing store reply input (record { clock = c; at = 0; end = 0; ended = false; going = true })
-unfolding ended fed calledAll start
+unfolding drained fed calledAll start
 stands-first store reply input c hs hr hc = record {
   kept-is = λ j. record { store = sym hs j; clock = sym hc j; reply = sym hr j };
   rest-is = refl;
