@@ -16,8 +16,10 @@ timeIn s = num (field 0 6 s)
 unfoldable pub lenIn : List ℕ → ℕ
 lenIn s = num (field 6 2 s)
 
--- what stands at the front of some bytes of a journal: a whole record, with its time and where it ends;
--- or no whole record: whether more bytes could make it one, and the refusal if none follow, 0 for a clean end
+-- what stands at the front of some bytes of a journal: a whole record, with its time and where it
+-- ends;
+-- or no whole record: whether more bytes could make it one, and the refusal if none follow, 0 for a
+-- clean end
 pub data Piece : Type 0 where
   whole : ℕ → ℕ → Piece
   noRecord : Bool → ℕ → Piece

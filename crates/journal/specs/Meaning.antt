@@ -9,7 +9,8 @@ use Rattle.wire.specs.Number.{be, num}
 use Rattle.wire.specs.Fill.{field}
 use Rattle.journal.specs.Journal.{whole, noRecord, pieceOf, TimedFrame, readOn, journalOf}
 
--- a journal is its first record and the journal behind it: the bound on the number of records is never met
+-- a journal is its first record and the journal behind it: the bound on the number of records is
+-- never met
 abbrev pub ReadRecordByRecord : Type 0
 ReadRecordByRecord = (s : List ℕ) → journalOf s ≡ readOn journalOf s (pieceOf s)
 

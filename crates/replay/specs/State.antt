@@ -19,7 +19,8 @@ pub record Fits (input output : List ℕ) (s : State) : Type 0 where
   pub inputs : length input ≡ 65536
   pub outputs : length output ≡ 65536
 
--- what has happened: the calls while the input came, the outputs of those since it ended, and the bytes that came since the last call
+-- what has happened: the calls while the input came, the outputs of those since it ended, and the
+-- bytes that came since the last call
 pub record History : Type 0 where
   pub calls : List Call
   pub rooms : List ℕ
@@ -46,7 +47,8 @@ abbrev pub TurnIsOneCall : List ℕ → List ℕ → List ℕ → State → List
 TurnIsOneCall store reply input s store′ reply′ input′ r =
     (h : History) → Stands h store reply input s → (more : List ℕ) × Stands (oneMore (s .ended) h more) store′ reply′ input′ r
 
--- the bytes from at to end stand at the front, with those behind them that came; none came if the input has ended
+-- the bytes from at to end stand at the front, with those behind them that came; none came if the
+-- input has ended
 pub record Refilled (input : List ℕ) (clock : Clock) (at end : ℕ) (s : State) (input′ : List ℕ) : Type 0 where
   pub clock-is : s .clock ≡ clock
   pub at-is : s .at ≡ 0
@@ -66,7 +68,8 @@ pub record CanGoOn (input : List ℕ) (s : State) (p : Progress) : Type 0 where
   pub within : s .end ≤ length input
   pub room : p .next ≡ Read → s .end - (s .at + p .taken) < length input
 
--- what a call asks for is done: more is read, or the rest is left for the next call, or the replay stops
+-- what a call asks for is done: more is read, or the rest is left for the next call, or the replay
+-- stops
 abbrev pub GoesOn : Next → List ℕ → State → Progress → State → List ℕ → Type 0
 GoesOn Read input s p r input′ = Refilled input (p .clock) (s .at + p .taken) (s .end) r input′
 GoesOn Write input s p r input′ = (r ≡ pastCall s p true) × (input′ ≡ input)

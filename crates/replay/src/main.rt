@@ -1,4 +1,5 @@
-// Replays a journal from standard input against one store, and writes each reply frame to standard output.
+// Replays a journal from standard input against one store, and writes each reply frame to standard
+// output.
 // The library answers the records: here bytes are only read, moved and written.
 use clock::Clock;
 use image::layout::MAX_SLOTS;
@@ -39,7 +40,8 @@ fn move_to_front(buffer: &mut [u8], at: usize, end: usize)
     }
 }
 
-// Reads more input behind the first `kept` bytes, which stay, and answers how many bytes came. There is room for one, so 0 is the end.
+// Reads more input behind the first `kept` bytes, which stay, and answers how many bytes came.
+// There is room for one, so 0 is the end.
 fn read_more(input: &mut [u8], kept: usize) -> usize
     requires { ⌜ kept < length (now input) ⌝ }
     ensures counted { λ r. ⌜ r + kept ≤ length (now (input .entry)) ⌝ }
@@ -125,7 +127,8 @@ fn turn(
     past(state, progress, false)
 }
 
-// A proved loop has to end, and nothing says that the input does, so the turns are counted down from a number that no run uses up.
+// A proved loop has to end, and nothing says that the input does, so the turns are counted down
+// from a number that no run uses up.
 fn run(store: &mut [u8], reply: &mut [u8])
     requires { ⌜ (now store ≡ start .store) × (now reply ≡ start .reply) ⌝ }
 {

@@ -36,7 +36,8 @@ module _ (f : ℕ → List ℕ) (k : Kept) (s : List ℕ) where
   told-ends b n h = rw (journal-ends s b n h)
 
 module _ (ended : Bool) (k₀ : Kept) (a : List ℕ) where
-  -- what is written, with what is owed to the rest, are the replies to all that came and to any more
+  -- what is written, with what is owed to the rest, are the replies to all that came and to any
+  -- more
   abbrev pub Open : Kept → List ℕ → List ℕ → Type 0
   Open k rest out = (f : ℕ → List ℕ) (more : List ℕ) → told f k₀ (a ++ more) ≡ out ++ told f k (rest ++ more)
 

@@ -12,7 +12,8 @@ use Rattle.replayer.specs.declared.Next.the-variants.{Read, Write, Stop}
 use Rattle.replayer.specs.declared.Progress.{Progress}
 use Rattle.replayer.specs.Replies.{Kept, after, replyTo, lastReply}
 
--- how far a call has come: what is kept, how many input bytes are taken, what was put into the output, and what the caller is to do
+-- how far a call has come: what is kept, how many input bytes are taken, what was put into the
+-- output, and what the caller is to do
 pub record Replay : Type 0 where
   pub kept : Kept
   pub taken : ℕ
@@ -30,7 +31,8 @@ waiting p = record { kept = p .kept; taken = p .taken; output = p .output; next 
 unfoldable pub stopped : Replay → ℕ → Replay
 stopped p n = record { kept = p .kept; taken = p .taken; output = p .output ++ lastReply n; next = Stop }
 
--- where there is no whole record, more input is waited for, unless it could not make one or the input has ended
+-- where there is no whole record, more input is waited for, unless it could not make one or the
+-- input has ended
 unfoldable pub turnOn : Bool → Replay → List ℕ → Piece → Replay
 turnOn ended p s (whole t e) = answered p (recordAt t e s) e
 turnOn ended p s (noRecord more n) = cond (more && not ended) (waiting p) (stopped p n)
@@ -86,7 +88,8 @@ replayOf store reply output p = record {
 abbrev pub withNext : ℕ → Next → Progress → Progress
 withNext filled next p = record { clock = p .clock; taken = p .taken; filled = filled; next = next }
 
--- the input that is taken and the output that is filled lie within their buffers, and any reply has room
+-- the input that is taken and the output that is filled lie within their buffers, and any reply has
+-- room
 pub record Fits (input output : List ℕ) (p : Progress) : Type 0 where
   pub within : p .taken ≤ length input
   pub room : p .filled + 600 ≤ length output

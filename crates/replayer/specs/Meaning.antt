@@ -26,25 +26,29 @@ pub record Within (input : List ℕ) (room : ℕ) (x : Replay) : Type 0 where
 abbrev pub CallsStayWithin : Type 0
 CallsStayWithin = (ended : Bool) (input : List ℕ) (room : ℕ) (k : Kept) → Within input room (advanced ended input room k)
 
--- a call that could have put a reply into its output asks for another call only after it has taken a record, of 14 bytes or more
+-- a call that could have put a reply into its output asks for another call only after it has taken
+-- a record, of 14 bytes or more
 abbrev pub CallsGetOn : Type 0
 CallsGetOn = (ended : Bool) (input : List ℕ) (room : ℕ) (k : Kept) → 600 ≤ room → advanced ended input room k .next ≡ Write
     → 14 ≤ advanced ended input room k .taken
 
--- when more input is asked for, less than the longest record, 606 bytes, is left of what has come, and the input has not ended
+-- when more input is asked for, less than the longest record, 606 bytes, is left of what has come,
+-- and the input has not ended
 abbrev pub ReadsForARecord : Type 0
 ReadsForARecord = (ended : Bool) (input : List ℕ) (room : ℕ) (k : Kept) → advanced ended input room k .next ≡ Read
     → (ended ≡ false) × (length (drop (advanced ended input room k .taken) input) < 606)
 
 -- ---- input that comes in pieces
--- between two calls: what is kept, the input that is not taken, what has been written, and what is to be done
+-- between two calls: what is kept, the input that is not taken, what has been written, and what is
+-- to be done
 pub record Stream : Type 0 where
   pub kept : Kept
   pub rest : List ℕ
   pub written : List ℕ
   pub next : Next
 
--- a call: the bytes that came since the last one, perhaps none, and the length of the output that is lent
+-- a call: the bytes that came since the last one, perhaps none, and the length of the output that
+-- is lent
 pub record Call : Type 0 where
   pub came : List ℕ
   pub room : ℕ
@@ -58,7 +62,8 @@ isStop Read = false
 isStop Write = false
 isStop Stop = true
 
--- a call is made on the input that is left and that came, and its output is written; after a stop none is made
+-- a call is made on the input that is left and that came, and its output is written; after a stop
+-- none is made
 unfoldable pub called : Bool → Stream → Call → Stream
 called ended s c = cond (isStop (s .next)) s (afterCall s (s .rest ++ c .came) (advanced ended (s .rest ++ c .came) (c .room) (s .kept)))
 
@@ -82,7 +87,8 @@ unfoldable pub arrived : List Call → List ℕ
 arrived [] = []
 arrived (c ∷ cs) = c .came ++ arrived cs
 
--- in whatever pieces the input comes: once the replay has stopped, the replies to the whole journal have been written
+-- in whatever pieces the input comes: once the replay has stopped, the replies to the whole journal
+-- have been written
 abbrev pub AnyPieces : Type 0
 AnyPieces = (calls : List Call) (rooms : List ℕ) → drained calls rooms .next ≡ Stop → drained calls rooms .written ≡ replies (arrived calls)
 
@@ -95,7 +101,8 @@ AllHaveRoom (n ∷ ns) = (600 ≤ n) × AllHaveRoom ns
 abbrev pub Stops : Type 0
 Stops = (calls : List Call) (rooms : List ℕ) → AllHaveRoom rooms → length (arrived calls) < length rooms → drained calls rooms .next ≡ Stop
 
--- when more input is asked for, each whole record that has come is answered, so that a caller that waits for an answer gets it
+-- when more input is asked for, each whole record that has come is answered, so that a caller that
+-- waits for an answer gets it
 abbrev pub AnsweredBeforeReading : Type 0
 AnsweredBeforeReading = (calls : List Call) → fed calls .next ≡ Read → fed calls .written ≡ repliesTo start (journalOf (arrived calls) .records)
 
@@ -109,7 +116,8 @@ abbrev pub AllRead : List (List ℕ) → Type 0
 AllRead [] = Unit {0}
 AllRead (f ∷ fs) = ((m : Message) × (readFrame f ≡ message m)) × AllRead fs
 
--- a reply frame for each record, one more for what stands behind the last if that is refused, and nothing else
+-- a reply frame for each record, one more for what stands behind the last if that is refused, and
+-- nothing else
 pub record Framed (s : List ℕ) : Type 0 where
   pub frames : List (List ℕ)
   pub are : replies s ≡ joined frames

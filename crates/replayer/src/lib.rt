@@ -1,4 +1,5 @@
-// Answers the records of a journal over slices: input that has come is taken, and output that is to be written is filled.
+// Answers the records of a journal over slices: input that has come is taken, and output that is to
+// be written is filled.
 // What is left to a program is to read and to write.
 use clock::Clock;
 use frame::write_err;
@@ -17,7 +18,8 @@ ghost use Rattle.frame.specs.Layout.{frameOf};
 ghost use Rattle.journal.specs.Journal.{recordAt};
 ghost use Rattle.replayer.specs.Advance.{isWrite, answered, turn, replayOf, withNext, Fits, Leaves, Advances};
 
-// The refusal of a journal that ends inside a record or has a LEN out of range, and the length of its ERR frame.
+// The refusal of a journal that ends inside a record or has a LEN out of range, and the length of
+// its ERR frame.
 const BAD_FRAME: u8 = 3;
 
 const ERR_BYTES: usize = 9;
@@ -34,7 +36,8 @@ pub enum Next {
     Stop,
 }
 
-// The next clock, how many bytes of the input were taken, how many of the output were filled, and what is to be done.
+// The next clock, how many bytes of the input were taken, how many of the output were filled, and
+// what is to be done.
 pub struct Progress {
     pub clock: Clock,
     pub taken: usize,
@@ -162,7 +165,8 @@ fn turn(
     }
 }
 
-// Answers the records of the input while there is a whole one and room for its reply. `ended` says that no more input follows.
+// Answers the records of the input while there is a whole one and room for its reply. `ended` says
+// that no more input follows.
 pub fn advance(
     store: &mut [u8],
     clock: Clock,

@@ -1,4 +1,5 @@
-//! The proved replay program reads and writes as it must: the library's proofs say what it answers, and not what
+//! The proved replay program reads and writes as it must: the library's proofs say what it answers,
+//! and not what
 //! its process does with a pipe.
 
 use reference::frame::Message;
@@ -106,7 +107,8 @@ fn a_long_journal_that_is_cut_or_broken() {
     }
 }
 
-/// A conversation with the program: what it writes comes in by a thread, so that waiting for it can end.
+/// A conversation with the program: what it writes comes in by a thread, so that waiting for it can
+/// end.
 struct Conversation {
     child: Child,
     input: ChildStdin,
