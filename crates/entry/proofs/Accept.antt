@@ -64,9 +64,9 @@ module _ (e : Entry) where
         unfolding badFlag
         accepted-tombstone f n = rw (by-flag, le-ltb 1 (e .flag) (omega arith), eq-eqb (e .flag) 1 f, le-ltb 0 (length (e .value)) n)
 
-        pub accepted-active : e .flag ≤ 1 → (e .flag ≡ 1 → ⊥) → 0 ≡ refusalOf e
+        pub accepted-active : e .flag ≡ 0 → 0 ≡ refusalOf e
         unfolding badFlag
-        accepted-active f n = rw (by-flag, le-ltb 1 (e .flag) f, ne-eqb (e .flag) 1 n)
+        accepted-active f = rw (by-flag, f)
 
 -- a test that was made of its opposite
 pub opposite-true : (r b : Bool) → r ≡ not b → not r ≡ true → b ≡ true

@@ -165,7 +165,8 @@ pub fn judge(key: &[u8], value: &[u8], flag: u8, stamp: Stamp) -> Acceptance
     if TOMBSTONE < flag {
         return Acceptance::Refused(Refusal::BadArgument);
     }
-    if flag == TOMBSTONE {
+    // a tombstone has no value
+    if flag != ACTIVE {
         if 0 < value.len() {
             return Acceptance::Refused(Refusal::BadArgument);
         }
