@@ -17,12 +17,15 @@ pub struct Change {
     pub within: String,
     pub at: Range<usize>,
     pub new: String,
+    /// A `use` line for a name that the file does not have yet.
+    pub brings: Option<String>,
 }
 
 impl Change {
     pub fn applied(&self, text: &str) -> String {
+        let brings = self.brings.as_deref().unwrap_or("");
         format!(
-            "{}{}{}",
+            "{brings}{}{}{}",
             &text[..self.at.start],
             self.new,
             &text[self.at.end..]

@@ -127,6 +127,7 @@ impl Maker<'_> {
             within: self.within.to_string(),
             at: self.source.span(&tokens),
             new,
+            brings: None,
         });
     }
 

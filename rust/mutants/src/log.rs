@@ -24,7 +24,7 @@ pub enum Verdict {
     Fact,
     /// The proof file asks for facts that the code no longer has, so this shows nothing.
     Unfit,
-    /// The compiler refused it before the prover was asked.
+    /// The compiler refused it before the prover was asked, or a definition does not stand.
     NotCompiled,
     /// The check took too long.
     NoVerdict,
@@ -54,6 +54,7 @@ impl Log {
             _ if !in_time => Verdict::NoVerdict,
             Some(line) if line.starts_with("logic=proved") => Verdict::Proved,
             Some(line) if line.starts_with("logic=not-proved") => match faults.first() {
+                _ if faults.iter().any(Fault::is_of_a_definition) => Verdict::NotCompiled,
                 Some(fault) => fault.verdict(),
                 None if text.lines().any(|line| line.contains(LEFT_OPEN)) => Verdict::Fact,
                 None => Verdict::Unfit,
@@ -105,6 +106,7 @@ impl Log {
     pub fn theorem_refused(&self, theorem: &str, laws: &Laws) -> bool {
         let refused = self.faults.iter().any(|fault| fault.declaration == theorem);
         refused
+            && self.verdict == Verdict::Fact
             && self
                 .faults
                 .first()
@@ -126,6 +128,10 @@ fn fault(line: &str) -> Option<Fault> {
 }
 
 impl Fault {
+    fn is_of_a_definition(&self) -> bool {
+        self.at.contains("/specs/")
+    }
+
     fn verdict(&self) -> Verdict {
         if self.says.contains("has no `Need") {
             Verdict::Unfit

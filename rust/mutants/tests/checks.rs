@@ -55,6 +55,21 @@ logic=not-proved
 }
 
 #[test]
+fn a_definition_that_does_not_stand_shows_nothing() {
+    let log = "/x/crates/ring/specs/Owners.antt:25:12: error: `ownersAnswer`: `leb` is not in scope
+/x/crates/ring/proofs/Found.antt:9:1: error: `too-few`: `ownersAnswer` was not admitted
+fn ring::owners: not proved
+logic=not-proved
+";
+    let log = Log::read(log, true);
+    assert_eq!(log.verdict, Verdict::NotCompiled);
+    assert_eq!(log.verdict_on("owners"), None);
+    let mut laws = Laws::new();
+    add_laws(&mut laws, "pub too-few : A\ntoo-few = ownersAnswer\n");
+    assert!(!log.theorem_refused("too-few", &laws));
+}
+
+#[test]
 fn the_last_line_decides() {
     assert_eq!(
         Log::read("logic=proved functions=3", true).verdict,

@@ -171,6 +171,20 @@ fn definitions_that_contracts_cite_are_changed() {
 }
 
 #[test]
+fn a_definition_gets_the_name_it_lacks() {
+    let files = vec![("specs/A.antt".to_string(), DEFINITIONS.to_string())];
+    let cited = definitions::cited(&[Source::new(SOURCE.to_string())]);
+    let changes = definitions::mutants(&files, &cited);
+    let first = |new: &str| {
+        let change = changes.iter().find(|c| c.new == new).expect(new);
+        let text = change.applied(DEFINITIONS);
+        text.lines().next().map(str::to_string)
+    };
+    assert_eq!(first("leb").as_deref(), Some("-- a number 5 in a comment"));
+    assert_eq!(first("||").as_deref(), Some("use mathlib.Core.Bool.{_||_}"));
+}
+
+#[test]
 fn a_listed_mutant_needs_its_reason() {
     let (changes, _) = made();
     let known = Known {
