@@ -1,4 +1,5 @@
--- What a store holds after some entries were delivered to it, as a function of them; and that the book's words agree with it.
+-- What a store holds after some entries were delivered to it, as a function of them; and that the
+-- book's words agree with it.
 use Prim.Native.Nat.{ℕ, _≤_}
 use mathlib.Core.Path.{_≡_, refl, sym, _∙_, ap}
 use mathlib.Core.Logic.{_⊎_, inl, inr, _↔_}
@@ -14,7 +15,8 @@ use Rattle.entry.proofs.Order.{beats-asym, beats-weak, beats-tied}
 use Rattle.store.specs.Held.{_∈_, put, putAll, find}
 use Rattle.store.specs.Unchecked.{isHeld}
 use Rattle.history.specs.Book.{hasKey, keyCount, beatsAll, Greatest}
-use Rattle.store.proofs.HeldLaws.{Ascending, beats-irrefl, beats-trans, put-ascending, putAll-ascending, better, join, find-put, find-putAll, find-mem, find-some, same-find, length-put, length-mono, some-of}
+use Rattle.store.proofs.HeldLaws.{Ascending, beats-irrefl, beats-trans, put-ascending, putAll-ascending, better, join, find-put, find-putAll, find-mem}
+use Rattle.store.proofs.HeldLaws.{find-some, same-find, length-put, length-mono, some-of}
 
 -- the entries held after those of a list were offered, the last first
 unfoldable pub held : List Entry → List Entry
@@ -57,7 +59,13 @@ best-append k (g ∷ gs) ds = rw (best-append k gs ds) (elim (test (sameBytes k 
 pub held-append : (gs ds : List Entry) → putAll (held gs) (held ds) ≡ held (gs ++ ds)
 held-append gs ds =
     same-find (putAll (held gs) (held ds)) (held (gs ++ ds)) (putAll-ascending (held gs) (held ds) (held-ascending ds)) (held-ascending (gs ++ ds))
-    (λ k. rw (find-putAll k (held gs) (held ds) (held-ascending gs) (held-ascending ds), find-held k gs, find-held k ds, find-held k (gs ++ ds), best-append k gs ds))
+    (λ k. rw (
+      find-putAll k (held gs) (held ds) (held-ascending gs) (held-ascending ds),
+      find-held k gs,
+      find-held k ds,
+      find-held k (gs ++ ds),
+      best-append k gs ds,
+    ))
 
 -- the count of keys
 present-better : (e : Entry) (o : Option Entry) → isHeld (better e o) ≡ true
@@ -128,7 +136,8 @@ better-unbeaten d (some h) {e} p = elim (test (beats d h)) [
   | inr q ↦ rw (← Option·some-injective h e (rw q at p)) q
 ]
 
-better-unbeaten-too : (d c : Entry) (o : Option Entry) {e : Entry} → ((h : Entry) → o ≡ some h → beats c h ≡ false) → isHeld o ≡ true → better d o ≡ some e → beats c e ≡ false
+better-unbeaten-too : (d c : Entry) (o : Option Entry) {e : Entry} → ((h : Entry) → o ≡ some h → beats c h ≡ false) → isHeld o ≡ true → better d o ≡ some e
+    → beats c e ≡ false
 unfolding better isHeld
 better-unbeaten-too d c none {e} f t p = clash t refl
 better-unbeaten-too d c (some h) {e} f t p = elim (test (beats d h)) [

@@ -1,10 +1,12 @@
--- The book over a list of calls: what it accepts, that its sets only grow, and when it refuses nothing.
+-- The book over a list of calls: what it accepts, that its sets only grow, and when it refuses
+-- nothing.
 use Prim.Native.Nat.{ℕ, zero, suc, _≤_}
 use native.Mathlib.Omega.{arith}
 use mathlib.Core.Path.{_≡_, refl}
 use mathlib.Core.Logic.{inl, inr}
 use mathlib.Core.Bool.{false}
-use mathlib.Core.List.{List, [], _∷_, _++_, List·Memᴰ·head as head, List·Memᴰ·tail as tail, List·Memᴰ·cases-cons as mem-cons, List·Memᴰ·not-nil as mem-nil, List·Memᴰ·append-cases as mem-append, Memᴰ·append-right as mem-append-right}
+use mathlib.Core.List.{List, [], _∷_, _++_, List·Memᴰ·head as head, List·Memᴰ·tail as tail, List·Memᴰ·cases-cons as mem-cons, List·Memᴰ·not-nil as mem-nil}
+use mathlib.Core.List.{List·Memᴰ·append-cases as mem-append, Memᴰ·append-right as mem-append-right}
 use lib.ListN.{getD, set, replicate}
 use lib.Dec.{ltb, eqb}
 use borrow.Author.Tests.{ltb-false, le-ltb, eqb-true, eq-eqb}
@@ -12,7 +14,8 @@ use Rattle.wire.proofs.Tests.{test, clash}
 use Rattle.entry.specs.Entry.{Entry, Acceptable, refusalOf}
 use Rattle.store.specs.Held.{_∈_}
 use Rattle.store.specs.Answer.{Answer, isRefused}
-use Rattle.history.specs.Book.{Call, offer, merge, hasKey, keyCount, beatsAll, bookOffer, bookOffered, bookMerge, bookMerged, Book, delivered, bookAnswer, bookAfter, bookAnswers, offers, InRange}
+use Rattle.history.specs.Book.{Call, offer, merge, hasKey, keyCount, beatsAll, bookOffer, bookOffered, bookMerge, bookMerged, Book, delivered}
+use Rattle.history.specs.Book.{bookAnswer, bookAfter, bookAnswers, offers, InRange}
 use Rattle.history.proofs.Best.{Within, keyCount-mono}
 
 -- what the book accepts
@@ -76,11 +79,20 @@ set-within (x ∷ b) (suc r) (suc i) ds f = set-within b r i ds f
 
 pub book-grows : (C : ℕ) (b : Book) (c : Call) (i : ℕ) → Within (delivered b i) (delivered (bookAfter C b c) i)
 unfolding bookAfter bookOffered bookMerged
-book-grows C b (offer r e) i = set-within b r i _ (elim (test (isRefused (bookOffer C (delivered b r) e))) [ inl p ↦ rw p (λ d m. m) | inr p ↦ rw p (λ d m. tail m) ])
-book-grows C b (merge r g) i = set-within b r i _ (elim (test (isRefused (bookMerge C (delivered b r) (delivered b g)))) [ inl p ↦ rw p (λ d m. m) | inr p ↦ rw p (λ d m. mem-append-right (delivered b g) m) ])
+book-grows C b (offer r e) i =
+    set-within b r i _ (elim (test (isRefused (bookOffer C (delivered b r) e))) [
+      | inl p ↦ rw p (λ d m. m)
+      | inr p ↦ rw p (λ d m. tail m)
+    ])
+book-grows C b (merge r g) i =
+    set-within b r i _ (elim (test (isRefused (bookMerge C (delivered b r) (delivered b g)))) [
+      | inl p ↦ rw p (λ d m. m)
+      | inr p ↦ rw p (λ d m. mem-append-right (delivered b g) m)
+    ])
 
 -- where all entries are acceptable and their keys fit, the book refuses nothing
-pub set-all : (all : List Entry) (b : Book) (r : ℕ) (ds : List Entry) → Within ds all → ((i : ℕ) → Within (getD b i []) all) → (i : ℕ) → Within (getD (set b r ds) i []) all
+pub set-all : (all : List Entry) (b : Book) (r : ℕ) (ds : List Entry) → Within ds all → ((i : ℕ) → Within (getD b i []) all) → (i : ℕ)
+    → Within (getD (set b r ds) i []) all
 set-all all [] r ds f g i = g i
 set-all all (x ∷ b) zero ds f g zero = f
 set-all all (x ∷ b) zero ds f g (suc i) = g (suc i)
@@ -99,19 +111,30 @@ unfolding isRefused bookMerge
 merge-accepts C ds gs few = rw (le-ltb _ _ few)
 
 module _ (C : ℕ) (all : List Entry) (ok : (e : Entry) → e ∈ all → Acceptable e) (few : keyCount all ≤ C) where
-  pub call-accepts : (b : Book) (c : Call) (cs : List Call) → ((i : ℕ) → Within (delivered b i) all) → Within (offers (c ∷ cs)) all → isRefused (bookAnswer C b c) ≡ false
+  pub call-accepts : (b : Book) (c : Call) (cs : List Call) → ((i : ℕ) → Within (delivered b i) all) → Within (offers (c ∷ cs)) all
+      → isRefused (bookAnswer C b c) ≡ false
   unfolding bookAnswer offers
   call-accepts b (offer r e) cs f k = offer-accepts C (delivered b r) e (ok e (k e (head refl)))
       (omega (arith, few, keyCount-mono (e ∷ delivered b r) all (within-cons e _ (k e (head refl)) (f r))))
   call-accepts b (merge r g) cs f k = merge-accepts C (delivered b r) (delivered b g)
       (omega (arith, few, keyCount-mono (delivered b g ++ delivered b r) all (within-append (delivered b g) _ (f g) (f r))))
 
-  pub sets-within : (b : Book) (c : Call) (cs : List Call) → ((i : ℕ) → Within (delivered b i) all) → Within (offers (c ∷ cs)) all → (i : ℕ) → Within (delivered (bookAfter C b c) i) all
+  pub sets-within : (b : Book) (c : Call) (cs : List Call) → ((i : ℕ) → Within (delivered b i) all) → Within (offers (c ∷ cs)) all → (i : ℕ)
+      → Within (delivered (bookAfter C b c) i) all
   unfolding bookAfter bookOffered bookMerged offers
-  sets-within b (offer r e) cs f k = set-all all b r _ (elim (test (isRefused (bookOffer C (delivered b r) e))) [ inl p ↦ rw p (f r) | inr p ↦ rw p (within-cons e _ (k e (head refl)) (f r)) ]) f
-  sets-within b (merge r g) cs f k = set-all all b r _ (elim (test (isRefused (bookMerge C (delivered b r) (delivered b g)))) [ inl p ↦ rw p (f r) | inr p ↦ rw p (within-append (delivered b g) _ (f g) (f r)) ]) f
+  sets-within b (offer r e) cs f k =
+      set-all all b r _ (elim (test (isRefused (bookOffer C (delivered b r) e))) [
+        | inl p ↦ rw p (f r)
+        | inr p ↦ rw p (within-cons e _ (k e (head refl)) (f r))
+      ]) f
+  sets-within b (merge r g) cs f k =
+      set-all all b r _ (elim (test (isRefused (bookMerge C (delivered b r) (delivered b g)))) [
+        | inl p ↦ rw p (f r)
+        | inr p ↦ rw p (within-append (delivered b g) _ (f g) (f r))
+      ]) f
 
-  pub book-accepts : (b : Book) (cs : List Call) → ((i : ℕ) → Within (delivered b i) all) → Within (offers cs) all → (a : Answer) → a ∈ bookAnswers C b cs → isRefused a ≡ false
+  pub book-accepts : (b : Book) (cs : List Call) → ((i : ℕ) → Within (delivered b i) all) → Within (offers cs) all → (a : Answer) → a ∈ bookAnswers C b cs
+      → isRefused a ≡ false
   unfolding bookAnswers
   book-accepts b [] f k a m = absurd (mem-nil m)
   book-accepts b (c ∷ cs) f k a m = elim (mem-cons m) [

@@ -1,10 +1,12 @@
--- Demand 3, proved: an invariant between any world and any book, which fresh stores start and each call keeps.
+-- Demand 3, proved: an invariant between any world and any book, which fresh stores start and each
+-- call keeps.
 use Prim.Native.Nat.{ℕ, _<_, _≤_}
 use native.Mathlib.Omega.{arith}
 use mathlib.Core.Path.{_≡_, refl, sym, _∙_, ap, ap₂}
 use mathlib.Core.Logic.{inl, inr}
 use mathlib.Core.Bool.{true, false, cond, not}
-use mathlib.Core.List.{List, [], _∷_, _++_, List·Memᴰ·head as head, List·Memᴰ·cases-cons as mem-cons, List·Memᴰ·not-nil as mem-nil, List·Memᴰ·append-cases as mem-append}
+use mathlib.Core.List.{List, [], _∷_, _++_, List·Memᴰ·head as head, List·Memᴰ·cases-cons as mem-cons, List·Memᴰ·not-nil as mem-nil}
+use mathlib.Core.List.{List·Memᴰ·append-cases as mem-append}
 use mathlib.Core.Option.{Option, none, some}
 use lib.ListN.{length, set, length-set, length-replicate, getD-replicate}
 use lib.Seq.{getD-set-same, getD-set-other}
@@ -27,12 +29,15 @@ use Rattle.store.specs.Offer.{told, offerAnswer, afterOffer}
 use Rattle.store.specs.Merge.{mergeAnswer, afterMerge}
 use Rattle.store.specs.Unchecked.{isHeld}
 use Rattle.store.specs.Meaning.{Representable, Finds}
-use Rattle.history.specs.Book.{Call, offer, merge, hasKey, keyCount, beatsAll, Greatest, bookOffer, bookOffered, bookMerge, bookMerged, Book, delivered, bookAnswer, bookAfter, runBook, bookAnswers, offers, InRange}
+use Rattle.history.specs.Book.{Call, offer, merge, hasKey, keyCount, beatsAll, Greatest, bookOffer, bookOffered, bookMerge, bookMerged, Book, delivered}
+use Rattle.history.specs.Book.{bookAnswer, bookAfter, runBook, bookAnswers, offers, InRange}
 use Rattle.history.specs.History.{Stores, store, answer, after, run, answers, fresh, noneDelivered, setAfter, DeliveryHistory, EveryDeliveryHistory}
 use Rattle.store.proofs.HeldLaws.{beats-stamp, none-of}
 use Rattle.store.proofs.Members.{accept-all, fit-all, ascend}
-use Rattle.history.proofs.Best.{held, best, beatsBest, AllConsistent, Within, held-ascending, find-held, held-append, hasKey-best, keyCount-held, beatsAll-best, greatest-best, held-greatest, held-mem, held-same, held-key, held-grows}
-use Rattle.history.proofs.BookLaws.{offer-accepted, merge-accepted, range-tail, offers-tail, range-append, offers-append, within-cons, within-append, none-within, book-grows, book-accepts}
+use Rattle.history.proofs.Best.{held, best, beatsBest, AllConsistent, Within, held-ascending, find-held, held-append, hasKey-best, keyCount-held}
+use Rattle.history.proofs.Best.{beatsAll-best, greatest-best, held-greatest, held-mem, held-same, held-key, held-grows}
+use Rattle.history.proofs.BookLaws.{offer-accepted, merge-accepted, range-tail, offers-tail, range-append, offers-append, within-cons, within-append}
+use Rattle.history.proofs.BookLaws.{none-within, book-grows, book-accepts}
 
 -- what the store tells of a success is what the book tells
 told-book : (e : Entry) (ds : List Entry)
@@ -66,7 +71,9 @@ module _ (C n : ℕ) (lo : 1 ≤ C) (hi : C ≤ mostSlots) (all : List Entry)
         fits e (a .acceptable e k) (r .logical) (r .node)
 
     is-sound : sound bytes ≡ true
-    is-sound = rw (a .is-image) (sound-image C (held ds) lo hi few (fit-all (held ds) fit-held) (accept-all (held ds) (λ e m. a .acceptable e (held-mem ds m))) (ascend (held ds) (held-ascending ds)))
+    is-sound =
+        rw (a .is-image) (sound-image C (held ds) lo hi few (fit-all (held ds) fit-held) (accept-all (held ds) (λ e m. a .acceptable e (held-mem ds m)))
+        (ascend (held ds) (held-ascending ds)))
 
     entries-are : entriesOf bytes ≡ held ds
     entries-are = rw (a .is-image) (entries-of-image C (held ds) (fit-all (held ds) fit-held) (omega (arith, few)))
@@ -202,20 +209,23 @@ module _ (C n : ℕ) (lo : 1 ≤ C) (hi : C ≤ mostSlots) (all : List Entry)
     unfolding noneDelivered
     history = record {
       answered = same-answers;
-      accepted = λ ok few a m. book-accepts C (offers calls) ok few (noneDelivered n) calls (λ i. none-within n i (offers calls)) (λ e j. j) a (rw same-answers at m);
+      accepted =
+          λ ok few a m. book-accepts C (offers calls) ok few (noneDelivered n) calls (λ i. none-within n i (offers calls)) (λ e j. j) a (rw same-answers at m);
       holds = λ i h e. let a = end .each i h in rw (entries-are a) (held-greatest (setAfter C n calls i) (consistent a) e);
       keys = λ i h d m. let a = end .each i h in rw (entries-are a) (held-key (setAfter C n calls i) m);
       bytes = λ i h. let a = end .each i h in rw (entries-are a) (ascend _ (held-ascending (setAfter C n calls i)), a .is-image);
       converge = λ i j h l f.
           let a = end .each i h in
           let b = end .each j l in
-          a .is-image ∙ ap (image C) (held-same (setAfter C n calls i) (setAfter C n calls j) (consistent a) (consistent b) (λ e. f e .0) (λ e. f e .1)) ∙ sym (b .is-image);
+          a .is-image ∙ ap (image C) (held-same (setAfter C n calls i) (setAfter C n calls j) (consistent a) (consistent b) (λ e. f e .0) (λ e. f e .1))
+          ∙ sym (b .is-image);
       monotone = λ before c later split i l h.
           let r = range-append n before (c ∷ later) (rw split at range) in
           let o = offers-append before (c ∷ later) (rw split at k) in
           let a = run-agrees before (r .0) (o .0) fresh-agrees in
           let b = call-after c later (r .1) (o .1) a in
-          rw (entries-are (a .each i l), entries-are (b .each i l)) (λ m. let (g, k, e, u) = held-grows _ _ (book-grows C (runBook C (noneDelivered n) before) c i) h m in (g, k, e, beats-stamp h g u));
+          rw (entries-are (a .each i l), entries-are (b .each i l))
+          (λ m. let (g, k, e, u) = held-grows _ _ (book-grows C (runBook C (noneDelivered n) before) c i) h m in (g, k, e, beats-stamp h g u));
       looked = λ i h e g. look-greatest (end .each i h) e g;
       unseen = λ i h k b u. look-unseen (end .each i h) k b u;
     }

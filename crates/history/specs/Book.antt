@@ -1,4 +1,5 @@
--- The delivery book: calls, answers, and what the book says of a list of calls from the calls alone, never from a store's bytes.
+-- The delivery book: calls, answers, and what the book says of a list of calls from the calls
+-- alone, never from a store's bytes.
 use Prim.Native.Nat.{ℕ, suc, _<_}
 use mathlib.Core.Path.{_≡_}
 use mathlib.Core.Bool.{Bool, true, false, cond, not, _&&_, _||_}
@@ -15,7 +16,8 @@ pub data Call : Type 0 where
   offer : (store : ℕ) → Entry → Call
   merge : (receiver giver : ℕ) → Call
 
--- a set of delivered entries is a list of them, in which the order and a second occurrence mean nothing
+-- a set of delivered entries is a list of them, in which the order and a second occurrence mean
+-- nothing
 unfoldable pub hasKey : List ℕ → List Entry → Bool
 hasKey k [] = false
 hasKey k (d ∷ ds) = sameBytes k (d .key) || hasKey k ds

@@ -1,7 +1,8 @@
--- Demand 3: stores that are offered entries and merged into one another, and what holds after every list of such calls.
--- The calls run here are those of the code: the contracts of `create`, `offer`, `merge`, `lookup` and `value` say that they answer and leave
--- `afterCreate` (`freshStore` where it is not refused), `offerAnswer`, `afterOffer`, `mergeAnswer`, `afterMerge`, `lookupAnswer` and `valuePart`, the very definitions that `answer`,
--- `after` and the clauses below are made of.
+-- Demand 3: stores that are offered entries and merged into one another, and what holds after every
+-- list of such calls. The calls run here are those of the code: the contracts of `create`, `offer`,
+-- `merge`, `lookup` and `value` say that they answer and leave `afterCreate` (`freshStore` where it
+-- is not refused), `offerAnswer`, `afterOffer`, `mergeAnswer`, `afterMerge`, `lookupAnswer` and
+-- `valuePart`, the very definitions that `answer`, `after` and the clauses below are made of.
 use Prim.Native.Nat.{ℕ, _<_, _≤_}
 use mathlib.Core.Path.{_≡_}
 use mathlib.Core.Logic.{_↔_}
@@ -95,7 +96,8 @@ RepresentableOffers calls = (e : Entry) → e ∈ offers calls → Representable
 abbrev pub ConsistentOffers : List Call → Type 0
 ConsistentOffers calls = (d e : Entry) → d ∈ offers calls → e ∈ offers calls → Acceptable d → Acceptable e → Consistent d e
 
--- demand 3, the delivery history: for every slot count, every number of stores and every list of calls
+-- demand 3, the delivery history: for every slot count, every number of stores and every list of
+-- calls
 abbrev pub EveryDeliveryHistory : Type 0
 EveryDeliveryHistory = (C n : ℕ) (calls : List Call) → 1 ≤ C → C ≤ mostSlots → InRange n calls
     → RepresentableOffers calls → ConsistentOffers calls → DeliveryHistory C n calls

@@ -104,7 +104,8 @@ entry-in i zero t h = absurd (not-suc-le-zero h)
 entry-in zero (suc n) t h = refl
 entry-in (suc i) (suc n) t h =
     entry-in i n (drop slotWidth t) (le-of-suc-le-suc h)
-    ∙ ap (λ (l : List ℕ). slotEntry (take slotWidth l) ∷ drop (suc i) (entriesIn n (drop slotWidth t))) (drop-drop (slotWidth * i) slotWidth t ∙ ap (λ (m : ℕ). drop m t) (next-slot i))
+    ∙ ap (λ (l : List ℕ). slotEntry (take slotWidth l) ∷ drop (suc i) (entriesIn n (drop slotWidth t)))
+    (drop-drop (slotWidth * i) slotWidth t ∙ ap (λ (m : ℕ). drop m t) (next-slot i))
 
 -- entry i is that of slot i
 pub entry-at : (i : ℕ) (s : List ℕ) → i < usedOf s → drop i (entriesOf s) ≡ slotEntry (slotAt i s) ∷ drop (suc i) (entriesOf s)
@@ -138,11 +139,23 @@ is-sound s k = rw (le-leb _ _ (k .some), le-leb _ _ (k .most), le-leb _ _ (k .ro
 pub sound-image : SoundImage
 unfolding sound
 sound-image c es lo hi room f each order =
-    rw (slots-of-image c es (omega arith), used-of-image c es (omega arith), entries-of-image c es f (omega arith), le-leb 1 c lo, le-leb c mostSlots hi, le-leb (length es) c room, each, order, sameBytes-refl (image c es))
+    rw (
+      slots-of-image c es (omega arith),
+      used-of-image c es (omega arith),
+      entries-of-image c es f (omega arith),
+      le-leb 1 c lo,
+      le-leb c mostSlots hi,
+      le-leb (length es) c room,
+      each,
+      order,
+      sameBytes-refl (image c es),
+    )
 
 -- past the header of a sound store
 pub past-header : (s : List ℕ) → Sound s → drop headerWidth s ≡ slots (entriesOf s) ++ zeros (slotWidth * (slotsOf s - length (entriesOf s)))
-past-header s k = ap (drop headerWidth) (k .bytes ∙ flat-image (slotsOf s) (entriesOf s)) ∙ drop-at (header (slotsOf s) (length (entriesOf s))) _ headerWidth (length-header (slotsOf s) (length (entriesOf s)))
+past-header s k =
+    ap (drop headerWidth) (k .bytes ∙ flat-image (slotsOf s) (entriesOf s))
+    ∙ drop-at (header (slotsOf s) (length (entriesOf s))) _ headerWidth (length-header (slotsOf s) (length (entriesOf s)))
 
 heads : (a b : Entry) (r s : List Entry) → a ∷ r ≡ b ∷ s → (a ≡ b) × (r ≡ s)
 heads a b r s h = (cc, cc)

@@ -1,4 +1,5 @@
--- When bytes are the slot of the entry that is read from them: their zero fill and checksum are right.
+-- When bytes are the slot of the entry that is read from them: their zero fill and checksum are
+-- right.
 use mathlib.Core.Path.{_≡_, refl, sym, ap, ap₂, _∙_}
 use Prim.Native.Nat.{ℕ, _+_, _-_, _^_, _≤_, _<_}
 use mathlib.Core.Logic.{inl, inr}
@@ -44,12 +45,19 @@ fill-past w s r h =
 
 module _ (e : Entry) where
   at-fill : field 13 3 (slotBytes e) ≡ zeros 3
-  at-fill = rw (past-phys e 3 3, field-past 2 1 3 (be 2 (e .stamp .logical)) _ (length-be 2 _), field-past 1 0 3 (be 1 (e .stamp .node)) _ (length-be 1 _), field-here 3 (zeros 3) _ (length-zeros 3))
+  at-fill =
+      rw (
+        past-phys e 3 3,
+        field-past 2 1 3 (be 2 (e .stamp .logical)) _ (length-be 2 _),
+        field-past 1 0 3 (be 1 (e .stamp .node)) _ (length-be 1 _),
+        field-here 3 (zeros 3) _ (length-zeros 3),
+      )
 
   at-key-fill : length (e .key) ≤ keyWidth → field (keyAt + length (e .key)) (keyWidth - length (e .key)) (slotBytes e) ≡ zeros (keyWidth - length (e .key))
   at-key-fill h = past-head e (length (e .key)) _ ∙ fill-past keyWidth (e .key) _ h
 
-  at-value-fill : length (e .value) ≤ valueWidth → field (valueAt + length (e .value)) (valueWidth - length (e .value)) (slotBytes e) ≡ zeros (valueWidth - length (e .value))
+  at-value-fill : length (e .value) ≤ valueWidth
+      → field (valueAt + length (e .value)) (valueWidth - length (e .value)) (slotBytes e) ≡ zeros (valueWidth - length (e .value))
   at-value-fill h =
       ap (λ (n : ℕ). field n (valueWidth - length (e .value)) (slotBytes e)) (omega arith) ∙ past-head e (keyWidth + length (e .value)) _
       ∙ field-past keyWidth (length (e .value)) _ (padded keyWidth (e .key)) _ (length-padded keyWidth (e .key)) ∙ fill-past valueWidth (e .value) _ h
@@ -92,7 +100,8 @@ module _ (s : List ℕ) (klen vlen : ℕ) (l : Lengths s klen vlen) where
     value-fill-zero : field (valueAt + vlen) (valueWidth - vlen) s ≡ zeros (valueWidth - vlen)
     unfolding slotEntry
     value-fill-zero =
-        ap (λ (n : ℕ). field (valueAt + n) (valueWidth - n) s) (sym value-length) ∙ ap (field (valueAt + length (valueIn s)) (valueWidth - length (valueIn s))) h
+        ap (λ (n : ℕ). field (valueAt + n) (valueWidth - n) s) (sym value-length)
+        ∙ ap (field (valueAt + length (valueIn s)) (valueWidth - length (valueIn s))) h
         ∙ at-value-fill (slotEntry s) (omega (arith, value-length, l .value-fits)) ∙ ap (λ (n : ℕ). zeros (valueWidth - n)) value-length
 
     sum-is : field bodyWidth 4 s ≡ be 4 (crc32c (field 0 bodyWidth s))
@@ -111,7 +120,8 @@ module _ (s : List ℕ) (klen vlen : ℕ) (l : Lengths s klen vlen) where
   pub bad-key-fill : sameBytes (field (keyAt + klen) (keyWidth - klen) s) (zeros (length (field (keyAt + klen) (keyWidth - klen) s))) ≡ false → false ≡ sealed s
   bad-key-fill = not-sealed (keyWidth - klen) (field (keyAt + klen) (keyWidth - klen) s) key-fill-zero
 
-  pub bad-value-fill : sameBytes (field (valueAt + vlen) (valueWidth - vlen) s) (zeros (length (field (valueAt + vlen) (valueWidth - vlen) s))) ≡ false → false ≡ sealed s
+  pub bad-value-fill : sameBytes (field (valueAt + vlen) (valueWidth - vlen) s) (zeros (length (field (valueAt + vlen) (valueWidth - vlen) s))) ≡ false
+      → false ≡ sealed s
   bad-value-fill = not-sealed (valueWidth - vlen) (field (valueAt + vlen) (valueWidth - vlen) s) value-fill-zero
 
   -- what the fill says of the bytes
@@ -137,7 +147,8 @@ module _ (s : List ℕ) (klen vlen : ℕ) (l : Lengths s klen vlen) where
       field-split 0 1 1 s,
     )
 
-    module _ (f : field 13 3 s ≡ zeros 3) (kf : field (keyAt + klen) (keyWidth - klen) s ≡ zeros (keyWidth - klen)) (vf : field (valueAt + vlen) (valueWidth - vlen) s ≡ zeros (valueWidth - vlen)) where
+    module _ (f : field 13 3 s ≡ zeros 3) (kf : field (keyAt + klen) (keyWidth - klen) s ≡ zeros (keyWidth - klen))
+        (vf : field (valueAt + vlen) (valueWidth - vlen) s ≡ zeros (valueWidth - vlen)) where
       key-padded : padded keyWidth (keyIn s) ≡ field keyAt keyWidth s
       key-padded =
           let n : klen + (keyWidth - klen) ≡ keyWidth = omega (arith, l .key-fits) in
@@ -166,7 +177,8 @@ module _ (s : List ℕ) (klen vlen : ℕ) (l : Lengths s klen vlen) where
       sealed-by-sum sum there se small te = elim (test (eqb sum there)) [
         | inl p ↦
             let q : s ≡ slotBody (slotEntry s) ++ be 4 (crc32c (slotBody (slotEntry s))) =
-            whole ∙ ap₂ (λ (a c : List ℕ). a ++ c) (sym body-is) (sym (be-here bodyWidth 4 (omega arith)) ∙ ap (be 4) (sym te ∙ sym (eqb-true sum there p) ∙ se ∙ ap crc32c (sym body-is))) in
+            whole ∙ ap₂ (λ (a c : List ℕ). a ++ c) (sym body-is)
+            (sym (be-here bodyWidth 4 (omega arith)) ∙ ap (be 4) (sym te ∙ sym (eqb-true sum there p) ∙ se ∙ ap crc32c (sym body-is))) in
             p ∙ sym (ap (sameBytes s) (sym q) ∙ sameBytes-refl s)
         | inr p ↦ p ∙ sym (false-of (sameBytes s (slotBytes (slotEntry s))) (λ t.
             clash (eq-eqb sum there (sym (te ∙ ap num (sum-is (sameBytes-eq _ _ t)) ∙ ap (λ (n : ℕ). num (be 4 n)) (sym se) ∙ num-be 4 sum small))) p))

@@ -62,7 +62,8 @@ module _ (e : Entry) where
   pub past-head : (at w : ℕ) → field (keyAt + at) w (slotBytes e) ≡ field at w tail
   unfolding slotBytes slotBody
   past-head at w =
-      ap (field (keyAt + at) w) (append-assoc (slotHead e ++ padded keyWidth (e .key)) (padded valueWidth (e .value)) _ ∙ append-assoc (slotHead e) (padded keyWidth (e .key)) _)
+      ap (field (keyAt + at) w) (append-assoc (slotHead e ++ padded keyWidth (e .key)) (padded valueWidth (e .value)) _
+      ∙ append-assoc (slotHead e) (padded keyWidth (e .key)) _)
       ∙ field-past keyAt at w (slotHead e) _ (length-head e)
 
   at-logical : field 10 2 (slotBytes e) ≡ be 2 (e .stamp .logical)
@@ -77,7 +78,8 @@ module _ (e : Entry) (f : Fit e) where
 
   in-flag : flagIn (slotBytes e) ≡ e .flag
   unfolding flagIn
-  in-flag = rw (flat e, field-past 1 0 1 (be 1 (length (e .key))) _ (length-be 1 _), field-here 1 (be 1 (e .flag)) _ (length-be 1 _)) (num-be 1 (e .flag) (f .flag))
+  in-flag =
+      rw (flat e, field-past 1 0 1 (be 1 (length (e .key))) _ (length-be 1 _), field-here 1 (be 1 (e .flag)) _ (length-be 1 _)) (num-be 1 (e .flag) (f .flag))
 
   pub in-vlen : num (field 2 2 (slotBytes e)) ≡ length (e .value)
   in-vlen = rw (past-flag e 0 2, field-here 2 (be 2 (length (e .value))) _ (length-be 2 _)) (num-be 2 (length (e .value)) (omega arith))
@@ -93,11 +95,19 @@ module _ (e : Entry) (f : Fit e) where
 
   in-key : keyIn (slotBytes e) ≡ e .key
   unfolding keyIn
-  in-key = rw (in-klen, past-head e 0 keyWidth, field-here keyWidth (padded keyWidth (e .key)) _ (length-padded keyWidth (e .key))) (take-padded keyWidth (e .key) (f .key))
+  in-key =
+      rw (in-klen, past-head e 0 keyWidth, field-here keyWidth (padded keyWidth (e .key)) _ (length-padded keyWidth (e .key)))
+      (take-padded keyWidth (e .key) (f .key))
 
   in-value : valueIn (slotBytes e) ≡ e .value
   unfolding valueIn
-  in-value = rw (in-vlen, past-head e keyWidth valueWidth, field-past keyWidth 0 valueWidth (padded keyWidth (e .key)) _ (length-padded keyWidth (e .key)), field-here valueWidth (padded valueWidth (e .value)) _ (length-padded valueWidth (e .value))) (take-padded valueWidth (e .value) (f .value))
+  in-value =
+      rw (
+        in-vlen,
+        past-head e keyWidth valueWidth,
+        field-past keyWidth 0 valueWidth (padded keyWidth (e .key)) _ (length-padded keyWidth (e .key)),
+        field-here valueWidth (padded valueWidth (e .value)) _ (length-padded valueWidth (e .value)),
+      ) (take-padded valueWidth (e .value) (f .value))
 
   in-stamp : stampIn (slotBytes e) ≡ e .stamp
   unfolding stampIn

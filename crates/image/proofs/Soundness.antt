@@ -28,7 +28,8 @@ use Rattle.entry.specs.Order.{keyBelow}
 use Rattle.entry.specs.Entry.{Entry, entryOf, refusalOf}
 use Rattle.entry.proofs.Numbers.{number-range}
 use Rattle.image.specs.Layout.{headerWidth, keyWidth, valueWidth, slotWidth, mostSlots, slotStart}
-use Rattle.image.specs.Image.{slotBytes, slots, header, keyIn, flagIn, valueIn, stampIn, slotEntry, entriesIn, slotsOf, usedOf, entriesOf, acceptable, allAcceptable, belowFirst, ascending, sound}
+use Rattle.image.specs.Image.{slotBytes, slots, header, keyIn, flagIn, valueIn, stampIn, slotEntry, entriesIn, slotsOf, usedOf, entriesOf, acceptable}
+use Rattle.image.specs.Image.{allAcceptable, belowFirst, ascending, sound}
 use Rattle.image.specs.Slot.{slotAt}
 use Rattle.image.specs.Check.{sealed, slotSound, slotsSound, shaped}
 use Rattle.image.specs.Meaning.{Fit, AllFit, Sound}
@@ -37,7 +38,8 @@ use Rattle.wire.proofs.Fields.{be-field, field-split}
 use Rattle.image.proofs.Fields.{field-past-all}
 use Rattle.image.proofs.SlotLaws.{length-slot, fit-of, slot-entry, in-klen, in-vlen}
 use Rattle.image.proofs.Sealing.{zero-true, zero-is}
-use Rattle.image.proofs.ImageLaws.{sound-is, is-sound, sound-fits, sound-length, used-is, entry-at, next-slot, first-slot, other-slots, length-header, length-slots, flat-image, flat-header, past-header}
+use Rattle.image.proofs.ImageLaws.{sound-is, is-sound, sound-fits, sound-length, used-is, entry-at, next-slot, first-slot, other-slots, length-header}
+use Rattle.image.proofs.ImageLaws.{length-slots, flat-image, flat-header, past-header}
 
 -- ---- a slot
 pub record Good (t : List ℕ) : Type 0 where
@@ -109,7 +111,8 @@ run-is (suc n) t h =
     let g = slot-good (take slotWidth t) (k .0) in
     sym (take-append-drop slotWidth t) ∙ ap₂ (λ (x y : List ℕ). x ++ y) (g .is) (run-is n (drop slotWidth t) (k .1))
     ∙ sym (append-assoc (slotBytes (slotEntry (take slotWidth t))) (slots (entriesIn n (drop slotWidth t))) (drop (slotWidth * n) (drop slotWidth t)))
-    ∙ ap (λ (r : List ℕ). (slotBytes (slotEntry (take slotWidth t)) ++ slots (entriesIn n (drop slotWidth t))) ++ r) (drop-drop (slotWidth * n) slotWidth t ∙ ap (λ (m : ℕ). drop m t) (next-slot n))
+    ∙ ap (λ (r : List ℕ). (slotBytes (slotEntry (take slotWidth t)) ++ slots (entriesIn n (drop slotWidth t))) ++ r)
+    (drop-drop (slotWidth * n) slotWidth t ∙ ap (λ (m : ℕ). drop m t) (next-slot n))
 
 run-accepts : (n : ℕ) (t : List ℕ) → slotsSound n t ≡ true → allAcceptable (entriesIn n t) ≡ true
 unfolding slotsSound entriesIn allAcceptable acceptable
@@ -133,7 +136,8 @@ module _ (s : List ℕ) where
         let e : usedOf s - i ≡ suc (usedOf s - (i + 1)) = omega arith in
         let d : slotStart i + slotWidth ≡ slotStart (i + 1) = omega arith in
         ap (λ (m : ℕ). slotsSound m (drop (slotStart i) s)) e
-        ∙ ap (λ (l : List ℕ). slotSound (take slotWidth (drop (slotStart i) s)) && slotsSound (usedOf s - (i + 1)) l) (drop-drop slotWidth (slotStart i) s ∙ ap (λ (m : ℕ). drop m s) d)
+        ∙ ap (λ (l : List ℕ). slotSound (take slotWidth (drop (slotStart i) s)) && slotsSound (usedOf s - (i + 1)) l)
+        (drop-drop slotWidth (slotStart i) s ∙ ap (λ (m : ℕ). drop m s) d)
 
     pub run-next : i < usedOf s → slotSound (slotAt i s) ≡ true → slotsLeft s (i + 1) ≡ slotsLeft s i
     run-next h g = sym (run-on h ∙ ap (λ (b : Bool). b && slotsLeft s (i + 1)) g)
@@ -161,7 +165,8 @@ module _ (s : List ℕ) (i : ℕ) (lo : 1 ≤ i) (hi : i < usedOf s) where
     pub keys-next : o ≡ Below → ascending (drop (i + 1 - 1) (entriesOf s)) ≡ ascending (drop (i - 1) (entriesOf s))
     keys-next e =
         let z : i + 1 - 1 ≡ i = omega arith in
-        ap (λ (n : ℕ). ascending (drop n (entriesOf s))) z ∙ sym (pair ∙ ap (λ (t : Bool). t && ascending (drop i (entriesOf s))) (came-below _ _ (sym order-is ∙ e)))
+        ap (λ (n : ℕ). ascending (drop n (entriesOf s))) z
+        ∙ sym (pair ∙ ap (λ (t : Bool). t && ascending (drop i (entriesOf s))) (came-below _ _ (sym order-is ∙ e)))
 
     pub keys-bad : (o ≡ Below → ⊥) → ascending (drop (i - 1) (entriesOf s)) ≡ false
     keys-bad h = pair ∙ ap (λ (t : Bool). t && ascending (drop i (entriesOf s))) (came-not-below _ _ (λ e. h (order-is ∙ e)))
@@ -195,7 +200,13 @@ shape-of s h =
     let t3 = and-true _ _ (t4 .0) in
     let t2 = and-true _ _ (t3 .0) in
     let t1 = and-true _ _ (t2 .0) in
-    record { some = leb-true _ _ (t1 .0); most = leb-true _ _ (t1 .1); room = leb-true _ _ (t2 .1); long = eqb-true _ _ (t3 .1); head = sameBytes-eq _ _ (t4 .1) }
+    record {
+      some = leb-true _ _ (t1 .0);
+      most = leb-true _ _ (t1 .1);
+      room = leb-true _ _ (t2 .1);
+      long = eqb-true _ _ (t3 .1);
+      head = sameBytes-eq _ _ (t4 .1);
+    }
 
 is-shaped : (s : List ℕ) → Shape s → shaped s ≡ true
 unfolding shaped
@@ -220,7 +231,8 @@ module _ (s : List ℕ) (c : ℕ) (ce : c ≡ slotsOf s) where
 -- what a right header says of its fields
 module _ (s : List ℕ) (k : Shape s) where
   laid-out : s ≡ be 2 (slotsOf s) ++ (be 2 (usedOf s) ++ (be 2 slotWidth ++ (be 2 headerWidth ++ (zeros 8 ++ drop headerWidth s))))
-  laid-out = sym (take-append-drop headerWidth s) ∙ ap (λ (h : List ℕ). h ++ drop headerWidth s) (k .head) ∙ flat-header (slotsOf s) (usedOf s) (drop headerWidth s)
+  laid-out =
+      sym (take-append-drop headerWidth s) ∙ ap (λ (h : List ℕ). h ++ drop headerWidth s) (k .head) ∙ flat-header (slotsOf s) (usedOf s) (drop headerWidth s)
 
   past-counts : (at w : ℕ) → field (4 + at) w s ≡ field at w (be 2 slotWidth ++ (be 2 headerWidth ++ (zeros 8 ++ drop headerWidth s)))
   past-counts at w =
@@ -232,10 +244,14 @@ module _ (s : List ℕ) (k : Shape s) where
   width-is = ap num (past-counts 0 2 ∙ field-here 2 (be 2 slotWidth) _ (length-be 2 _)) ∙ num-be 2 slotWidth (omega arith)
 
   offset-is : num (field 6 2 s) ≡ headerWidth
-  offset-is = ap num (past-counts 2 2 ∙ field-past 2 0 2 (be 2 slotWidth) _ (length-be 2 _) ∙ field-here 2 (be 2 headerWidth) _ (length-be 2 _)) ∙ num-be 2 headerWidth (omega arith)
+  offset-is =
+      ap num (past-counts 2 2 ∙ field-past 2 0 2 (be 2 slotWidth) _ (length-be 2 _) ∙ field-here 2 (be 2 headerWidth) _ (length-be 2 _))
+      ∙ num-be 2 headerWidth (omega arith)
 
   rest-is : field 8 8 s ≡ zeros 8
-  rest-is = past-counts 4 8 ∙ field-past 2 2 8 (be 2 slotWidth) _ (length-be 2 _) ∙ field-past 2 0 8 (be 2 headerWidth) _ (length-be 2 _) ∙ field-here 8 (zeros 8) _ (length-zeros 8)
+  rest-is =
+      past-counts 4 8 ∙ field-past 2 2 8 (be 2 slotWidth) _ (length-be 2 _) ∙ field-past 2 0 8 (be 2 headerWidth) _ (length-be 2 _)
+      ∙ field-here 8 (zeros 8) _ (length-zeros 8)
 
 module _ (s : List ℕ) where
   pub bad-width : (n : ℕ) → n ≡ num (field 4 2 s) → (n ≡ slotWidth → ⊥) → false ≡ shaped s
@@ -270,7 +286,14 @@ module _ (s : List ℕ) where
 
     pub shaped-by-rest : sameBytes (field 8 8 s) (zeros (length (field 8 8 s))) ≡ shaped s
     shaped-by-rest = elim (test (sameBytes (field 8 8 s) (zeros (length (field 8 8 s))))) [
-      | inl p ↦ p ∙ sym (is-shaped s (record { some = some; most = most; room = room; long = long; head = head-is (zero-is 8 (field 8 8 s) (length-field 8 8 s (omega arith)) p) }))
+      | inl p ↦
+          p ∙ sym (is-shaped s (record {
+            some = some;
+            most = most;
+            room = room;
+            long = long;
+            head = head-is (zero-is 8 (field 8 8 s) (length-field 8 8 s (omega arith)) p);
+          }))
       | inr p ↦ p ∙ shapeless s (λ k. clash (zero-true 8 (field 8 8 s) (rest-is s k)) p)
     ]
 
@@ -282,7 +305,9 @@ module _ (s : List ℕ) where
     most = k .most;
     room = k .room;
     long = sound-length s k;
-    head = ap (take headerWidth) (k .bytes ∙ flat-image (slotsOf s) (entriesOf s)) ∙ take-at (header (slotsOf s) (length (entriesOf s))) _ headerWidth (length-header _ _) ∙ ap (header (slotsOf s)) (used-is s);
+    head =
+        ap (take headerWidth) (k .bytes ∙ flat-image (slotsOf s) (entriesOf s))
+        ∙ take-at (header (slotsOf s) (length (entriesOf s))) _ headerWidth (length-header _ _) ∙ ap (header (slotsOf s)) (used-is s);
   }
 
   sound-slots : Sound s → slotsSound (usedOf s) (drop headerWidth s) ≡ true
@@ -318,7 +343,9 @@ module _ (s : List ℕ) where
       bytes =
           sym (take-append-drop headerWidth s)
           ∙ ap₂ (λ (x y : List ℕ). x ++ y) (sh .head ∙ ap (header (slotsOf s)) (sym (used-is s)))
-          (run-is (usedOf s) (drop headerWidth s) ok ∙ ap (λ (r : List ℕ). slots (entriesOf s) ++ r) (drop-drop (slotWidth * usedOf s) headerWidth s ∙ rest ∙ ap (λ (u : ℕ). zeros (slotWidth * (slotsOf s - u))) (sym (used-is s))))
+          (run-is (usedOf s) (drop headerWidth s) ok
+          ∙ ap (λ (r : List ℕ). slots (entriesOf s) ++ r)
+          (drop-drop (slotWidth * usedOf s) headerWidth s ∙ rest ∙ ap (λ (u : ℕ). zeros (slotWidth * (slotsOf s - u))) (sym (used-is s))))
           ∙ sym (flat-image (slotsOf s) (entriesOf s));
     }
 

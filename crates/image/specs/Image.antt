@@ -1,4 +1,5 @@
--- The store image: its bytes from the entries held, the entries from the bytes, and when it is sound.
+-- The store image: its bytes from the entries held, the entries from the bytes, and when it is
+-- sound.
 use Prim.Native.Nat.{ℕ, zero, suc, _-_, _*_}
 use mathlib.Core.Bool.{Bool, true, _&&_}
 use mathlib.Core.List.{List, [], _∷_, _++_}
@@ -11,7 +12,8 @@ use Rattle.checksum.specs.Crc32c.{crc32c}
 use Rattle.entry.specs.declared.Stamp.{Stamp}
 use Rattle.entry.specs.Order.{keyBelow}
 use Rattle.entry.specs.Entry.{Entry, refusalOf}
-use Rattle.image.specs.Layout.{slotsAt, usedAt, headerWidth, klenAt, flagAt, vlenAt, physAt, logicalAt, nodeAt, keyAt, keyWidth, valueAt, valueWidth, slotWidth, mostSlots}
+use Rattle.image.specs.Layout.{slotsAt, usedAt, headerWidth, klenAt, flagAt, vlenAt, physAt, logicalAt, nodeAt, keyAt, keyWidth, valueAt, valueWidth}
+use Rattle.image.specs.Layout.{slotWidth, mostSlots}
 
 -- ---- from the entries to the bytes
 
@@ -19,7 +21,8 @@ use Rattle.image.specs.Layout.{slotsAt, usedAt, headerWidth, klenAt, fla
 unfoldable pub header : ℕ → ℕ → List ℕ
 header c u = be 2 c ++ be 2 u ++ be 2 slotWidth ++ be 2 headerWidth ++ zeros 8
 
--- a slot's bytes before the key: klen(1), flag(1), vlen(2), phys(6), logical(2), node(1), three zeros
+-- a slot's bytes before the key: klen(1), flag(1), vlen(2), phys(6), logical(2), node(1), three
+-- zeros
 unfoldable pub slotHead : Entry → List ℕ
 slotHead e =
     be 1 (length (e .key)) ++ be 1 (e .flag) ++ be 2 (length (e .value))
@@ -92,7 +95,8 @@ unfoldable pub ascending : List Entry → Bool
 ascending [] = true
 ascending (e ∷ es) = belowFirst (e .key) es && ascending es
 
--- C is 1 to 100, U at most C, every entry acceptable, keys strictly ascending, and the bytes are the image of just those entries
+-- C is 1 to 100, U at most C, every entry acceptable, keys strictly ascending, and the bytes are
+-- the image of just those entries
 unfoldable pub sound : List ℕ → Bool
 sound s =
     leb 1 (slotsOf s) && leb (slotsOf s) mostSlots && leb (usedOf s) (slotsOf s)

@@ -1,7 +1,8 @@
 -- The layout of a store image: where each part stands, and how many bytes it has.
 use Prim.Native.Nat.{ℕ, _+_, _*_}
 
--- ---- the header: slots C (2), used U (2), slot width (2), offset of the first slot (2), eight zero bytes
+-- ---- the header
+-- slots C (2), used U (2), slot width (2), offset of the first slot (2), eight zero bytes
 abbrev pub slotsAt : ℕ
 slotsAt = 0
 
@@ -20,7 +21,9 @@ headerFillAt = 8
 abbrev pub headerWidth : ℕ
 headerWidth = 16
 
--- ---- a slot: klen(1), flag(1), vlen(2), phys(6), logical(2), node(1), three zeros, key in 64 bytes, value in 512 bytes, CRC32C(4)
+-- ---- a slot
+-- klen(1), flag(1), vlen(2), phys(6), logical(2), node(1), three zeros, key in 64 bytes, value in
+-- 512 bytes, CRC32C(4)
 abbrev pub klenAt : ℕ
 klenAt = 0
 

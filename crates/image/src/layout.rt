@@ -15,7 +15,8 @@ pub const HEADER_FILL_AT: usize = 8;
 
 pub const HEADER_WIDTH: usize = 16;
 
-// A slot: the key's length, the flag, the value's length, the stamp, zeros, the key, the value, the checksum.
+// A slot: the key's length, the flag, the value's length, the stamp, zeros, the key, the value, the
+// checksum.
 pub const KLEN_AT: usize = 0;
 
 pub const FLAG_AT: usize = 1;

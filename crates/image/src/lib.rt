@@ -1,4 +1,5 @@
-// The store image: whether it is sound, and its slots read and written. Each public function is total.
+// The store image: its layout, its header and slots read and written, and whether it is sound. Each
+// public function is total.
 mod field;
 pub mod layout;
 
@@ -150,7 +151,8 @@ pub fn put_slot(slot: &mut [u8], key: &[u8], value: &[u8], flag: u8, stamp: Stam
     put_be(&mut slot[BODY_WIDTH..SLOT_WIDTH], sum as u64);
 }
 
-// Whether the zero fill and the checksum of a slot are right, its lengths being within their fields.
+// Whether the zero fill and the checksum of a slot are right, its lengths being within their
+// fields.
 fn is_sealed(crcs: &Table, slot: &[u8], klen: usize, vlen: usize) -> bool
     requires { ⌜ (now crcs ≡ crcTable) × Lengths (now slot) klen vlen ⌝ }
     ensures { λ r. ⌜ r ≡ sealed (now (slot .entry)) ⌝ }
@@ -228,7 +230,8 @@ fn keys_ascend(store: &[u8]) -> bool
     true
 }
 
-// Writes the header of a store of `slots` slots, none of them used. Bytes that are no header stay as they are.
+// Writes the header of a store of `slots` slots, none of them used. Bytes that are no header stay
+// as they are.
 pub fn put_header(head: &mut [u8], slots: usize)
     ensures { λ _. ⌜ now (head .exit) ≡ headerWith slots 0 (now (head .entry)) ⌝ }
 {

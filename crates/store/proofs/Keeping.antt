@@ -127,7 +127,8 @@ told-new e (some h) p = elim (test (beats e h)) [
   ]
 ]
 
-found : (s : List ℕ) (e : Entry) → Representable e → isRefused (offerAnswer s e) ≡ false → (told e (find (e .key) (entriesOf s)) ≡ stored) ⊎ (told e (find (e .key) (entriesOf s)) ≡ replaced)
+found : (s : List ℕ) (e : Entry) → Representable e → isRefused (offerAnswer s e) ≡ false
+    → (told e (find (e .key) (entriesOf s)) ≡ stored) ⊎ (told e (find (e .key) (entriesOf s)) ≡ replaced)
     → Finds (afterOffer s e) e
 unfolding lookupAnswer valuePart valueFor
 found s e r n w =
@@ -135,7 +136,8 @@ found s e r n w =
     let k = offer-keeps s e (t .sound) r in
     let ok = accepted e (t .ok) in
     let held : entriesOf (afterOffer s e) ≡ put e (entriesOf s) = k .holds ∙ rw n in
-    let f : find (e .key) (put e (entriesOf s)) ≡ some e = find-put (e .key) e (entriesOf s) (ordered s (t .sound)) ∙ rw (sameBytes-refl (e .key)) (told-new e _ w) in
+    let f : find (e .key) (put e (entriesOf s)) ≡ some e =
+    find-put (e .key) e (entriesOf s) (ordered s (t .sound)) ∙ rw (sameBytes-refl (e .key)) (told-new e _ w) in
     record {
       told = rw (k .sound, ok .good-key, held, f);
       part = rw (k .sound, ok .good-key, held, f) (elim (test (eqb (e .flag) 1)) [ inl p ↦ rw p (sym (ok .tombstone (eqb-true _ _ p))) | inr p ↦ rw p ]);

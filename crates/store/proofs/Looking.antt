@@ -47,7 +47,8 @@ slot-value : (i : ℕ) (s : List ℕ) → field (valueStart i) (length (valueIn 
 unfolding valueIn slotAt
 slot-value i s =
     let n = num (field vlenAt 2 (slotAt i s)) in
-    let v : valueIn (slotAt i s) ≡ take n (field (valueStart i) valueWidth s) = ap (take n) (field-part (slotStart i) slotWidth valueAt valueWidth s (omega arith)) in
+    let v : valueIn (slotAt i s) ≡ take n (field (valueStart i) valueWidth s) =
+    ap (take n) (field-part (slotStart i) slotWidth valueAt valueWidth s (omega arith)) in
     ap (λ (l : List ℕ). field (valueStart i) (length l) s) v ∙ field-front n (valueStart i) valueWidth s ∙ sym v
 
 -- ---- the entry that is found stands at its index
@@ -89,7 +90,8 @@ module _ (s : List ℕ) (ok : sound s ≡ true) (k : List ℕ) (h : Entry) (f : 
       omega (arith, sound-length s n, n .room, used-is s, t .within)
 
 module _ (s : List ℕ) (ok : sound s ≡ true) (k : List ℕ) (at len : ℕ) where
-  stands-for : (o : Option Entry) → find k (entriesOf s) ≡ o → findingFor (indexOf k (entriesOf s)) o ≡ value at len → (at + len ≤ length s) × (field at len s ≡ valueFor o)
+  stands-for : (o : Option Entry) → find k (entriesOf s) ≡ o → findingFor (indexOf k (entriesOf s)) o ≡ value at len
+      → (at + len ≤ length s) × (field at len s ≡ valueFor o)
   unfolding findingFor valueFor
   stands-for none f e = distinct never (value at len) (λ q. cc) e
   stands-for (some h) f e = elim (test (eqb (h .flag) 1)) [

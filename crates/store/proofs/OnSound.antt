@@ -21,7 +21,8 @@ use Rattle.store.specs.Answer.{refused, isRefused}
 use Rattle.store.specs.Lookup.{findingFor, lookupAnswer}
 use Rattle.store.specs.Offer.{told, offerAnswer, afterOffer}
 use Rattle.store.specs.Meaning.{Keeps, UncheckedOnSound}
-use Rattle.store.specs.Unchecked.{seek, seen, isHeld, lookupUnchecked, placementFor, placement, toldOf, writtenAt, afterPlaced, afterAll, offerUnchecked, afterOfferUnchecked}
+use Rattle.store.specs.Unchecked.{seek, seen, isHeld, lookupUnchecked, placementFor, placement, toldOf, writtenAt, afterPlaced, afterAll, offerUnchecked}
+use Rattle.store.specs.Unchecked.{afterOfferUnchecked}
 use Rattle.store.proofs.HeldLaws.{Ascending, mem-put, put-ascending}
 use Rattle.store.proofs.Members.{accept-all, all-accepted, fit-all, all-fit, ascend, ascended}
 use Rattle.store.proofs.Seeking.{seek-within, put-unseen, seen-there, seek-index, put-seen, seen-find, put-length, put-all-grows}
@@ -107,13 +108,18 @@ unchecked-on-sound s h = record {
   lookup = λ k. rw (h, sights k (entriesOf s) (ordered s h));
   offer = λ e. rw (h, placed s h e .0);
   after = λ e. rw (h, placed s h e .1) (elim (test (eqb (refusalOf e) 0)) [
-    | inl p ↦ rw p (elim (test (ltb (slotsOf s) (length (put e (entriesOf s))))) [ inl q ↦ rw q | inr q ↦ rw (q, told-not-refused e (find (e .key) (entriesOf s))) ])
+    | inl p ↦
+        rw p (elim (test (ltb (slotsOf s) (length (put e (entriesOf s))))) [
+          | inl q ↦ rw q
+          | inr q ↦ rw (q, told-not-refused e (find (e .key) (entriesOf s)))
+        ])
     | inr p ↦ rw p
   ]);
 }
 
 -- ---- a store after an entry that there is room for
-pub image-keeps : (s : List ℕ) (es : List Entry) → sound s ≡ true → length es ≤ slotsOf s → ((e : Entry) → e ∈ es → Fit e) → ((e : Entry) → e ∈ es → Acceptable e)
+pub image-keeps : (s : List ℕ) (es : List Entry) → sound s ≡ true → length es ≤ slotsOf s → ((e : Entry) → e ∈ es → Fit e)
+    → ((e : Entry) → e ∈ es → Acceptable e)
     → Ascending es → Keeps s es (image (slotsOf s) es)
 image-keeps s es h n f ok a =
     let k = sound-is s h in

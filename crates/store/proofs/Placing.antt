@@ -1,4 +1,5 @@
--- Where an entry goes, in any bytes: the slots that are to be written are there, and what is told as stored was stored.
+-- Where an entry goes, in any bytes: the slots that are to be written are there, and what is told
+-- as stored was stored.
 use Prim.Native.Nat.{ℕ, _+_, _≤_}
 use native.Mathlib.Omega.{arith}
 use mathlib.Core.Path.{_≡_, refl}

@@ -29,7 +29,8 @@ module _ (s₀ : List ℕ) (w n : ℕ) (fits : n + w ≡ length s₀) where
       ∙ set-at (take (j + w) s₀) (getD s₀ (j + w) 0) (drop (suc j) t) (getD t j 0) (j + w) (length-take-le (j + w) s₀ (omega arith))
       ∙ ap (λ (r : List ℕ). take (j + w) s₀ ++ r) (sym (drop-cons t j 0 (omega arith)))
 
-  pub shift-step : (s : List ℕ) (i : ℕ) → 0 < i → i ≤ n → s ≡ take (i + w) s₀ ++ drop i (take n s₀) → set s (i - 1 + w) (getD s (i - 1) 0) ≡ take (i - 1 + w) s₀ ++ drop (i - 1) (take n s₀)
+  pub shift-step : (s : List ℕ) (i : ℕ) → 0 < i → i ≤ n → s ≡ take (i + w) s₀ ++ drop i (take n s₀)
+      → set s (i - 1 + w) (getD s (i - 1) 0) ≡ take (i - 1 + w) s₀ ++ drop (i - 1) (take n s₀)
   shift-step s zero h k e = absurd (not-suc-le-zero h)
   shift-step s (suc j) h k e =
       let d : suc j - 1 ≡ j = omega arith in

@@ -70,7 +70,8 @@ module _ (i : ℕ) (s : List ℕ) (fits : slotStart (i + 1) ≤ length s) where
 
   pub replace-done : (k : ℕ) (ys w : List ℕ) → k ≡ slotWidth → ys ≡ w → putMid (slotStart i) k s ys ≡ replaceAt i w s
   unfolding replaceAt
-  replace-done k ys w ke ye = splice-mid (slotStart i) (slotStart (i + 1)) k s ys (omega arith) ∙ ap (λ (l : List ℕ). splice (slotStart i) (slotStart (i + 1)) l s) ye
+  replace-done k ys w ke ye =
+      splice-mid (slotStart i) (slotStart (i + 1)) k s ys (omega arith) ∙ ap (λ (l : List ℕ). splice (slotStart i) (slotStart (i + 1)) l s) ye
 
   pub slot-replaced : (w : List ℕ) → length w ≡ slotWidth → slotAt i (replaceAt i w s) ≡ w
   unfolding replaceAt slotAt
@@ -100,9 +101,11 @@ module _ (i : ℕ) (s : List ℕ) (le : i ≤ usedOf s) (fits : slotStart (usedO
       let two : length (midOf usedAt 2 s) ≡ 2 = length-take-le 2 (drop usedAt s) (omega (arith, length-drop usedAt s)) in
       let is : t ≡ raised = te ∙ splice-mid usedAt widthAt 2 s us refl ∙ ap (λ (l : List ℕ). splice usedAt widthAt l s) (ue ∙ ap₂ be two ne) in
       let m : midOf a k t ≡ take k (drop a s) = ap (λ (l : List ℕ). take k (drop a l)) is ∙ ap (take k) past-raised in
-      let l : length (take k (drop a s)) - slotWidth ≡ slotWidth * (usedOf s - i) = omega (arith, length-take-le k (drop a s) (omega (arith, length-drop a s))) in
+      let l : length (take k (drop a s)) - slotWidth ≡ slotWidth * (usedOf s - i) =
+      omega (arith, length-take-le k (drop a s) (omega (arith, length-drop a s))) in
       let y : ys ≡ take slotWidth (drop a s) ++ take (slotWidth * (usedOf s - i)) (drop a s) =
-      ye ∙ ap (λ (x : List ℕ). take slotWidth x ++ take (length x - slotWidth) x) m ∙ ap₂ (λ (x y : List ℕ). x ++ y) (take-take slotWidth k (drop a s) (omega arith))
+      ye ∙ ap (λ (x : List ℕ). take slotWidth x ++ take (length x - slotWidth) x) m
+      ∙ ap₂ (λ (x y : List ℕ). x ++ y) (take-take slotWidth k (drop a s) (omega arith))
       (ap (λ (j : ℕ). take j (take k (drop a s))) l ∙ take-take (slotWidth * (usedOf s - i)) k (drop a s) (omega arith)) in
       splice-mid a (slotStart (usedOf s + 1)) k t ys (omega arith) ∙ ap₂ (splice a (slotStart (usedOf s + 1))) y is
 
@@ -116,7 +119,8 @@ module _ (i : ℕ) (s : List ℕ) (le : i ≤ usedOf s) (fits : slotStart (usedO
   pub slot-inserted : (w : List ℕ) → length w ≡ slotWidth → slotAt i (insertAt i w s) ≡ w
   unfolding insertAt slotAt
   slot-inserted w l =
-      field-spliced (slotStart i) (slotStart (usedOf s + 1)) w (field (slotStart i) (slotWidth * (usedOf s - i)) s) raised (omega (arith, length-raised)) slotWidth l
+      field-spliced (slotStart i) (slotStart (usedOf s + 1)) w (field (slotStart i) (slotWidth * (usedOf s - i)) s) raised
+      (omega (arith, length-raised)) slotWidth l
 
 -- ---- the image of two runs of entries
 image-of : (c u : ℕ) (xs ys : List Entry) → length xs + length ys ≡ u
@@ -140,7 +144,8 @@ module _ (s : List ℕ) (k : Sound s) (i : ℕ) (le : i ≤ usedOf s) where
   length-from = length-drop i es ∙ omega (arith, used-is s)
 
   length-front : (u : ℕ) → length (front u) ≡ slotStart i
-  length-front u = length-append (header (slotsOf s) u) (slots (take i es)) ∙ omega (arith, length-header (slotsOf s) u, length-slots (take i es), length-before)
+  length-front u =
+      length-append (header (slotsOf s) u) (slots (take i es)) ∙ omega (arith, length-header (slotsOf s) u, length-slots (take i es), length-before)
 
   length-moved : length (slots (drop i es)) ≡ slotWidth * (usedOf s - i)
   length-moved = length-slots (drop i es) ∙ ap (λ (n : ℕ). slotWidth * n) length-from
@@ -179,8 +184,10 @@ module _ (s : List ℕ) (k : Sound s) (i : ℕ) (le : i ≤ usedOf s) where
     pub replaced : (e : Entry) → i < usedOf s → replaceAt i (slotBytes e) s ≡ image (slotsOf s) (take i es ++ (e ∷ drop (suc i) es))
     unfolding replaceAt slots
     replaced e lt =
-        splice-part (slotStart i) (slotStart (i + 1)) (front (usedOf s)) (slotBytes h) (slotBytes e) rest s there (length-front (usedOf s)) (omega (arith, length-slot h))
-        ∙ sym (image-of (slotsOf s) (usedOf s) (take i es) (e ∷ drop (suc i) es) (omega (arith, length-before, length-from, ap length split)) ∙ simp append-assoc)
+        splice-part (slotStart i) (slotStart (i + 1)) (front (usedOf s)) (slotBytes h) (slotBytes e) rest s there (length-front (usedOf s))
+        (omega (arith, length-slot h))
+        ∙ sym (image-of (slotsOf s) (usedOf s) (take i es) (e ∷ drop (suc i) es) (omega (arith, length-before, length-from, ap length split))
+        ∙ simp append-assoc)
 
   -- ---- a slot put in
   module _ (room : usedOf s < slotsOf s) where
@@ -196,12 +203,14 @@ module _ (s : List ℕ) (k : Sound s) (i : ℕ) (le : i ≤ usedOf s) where
     moved : field (slotStart i) (slotWidth * (usedOf s - i)) s ≡ slots (drop i es)
     moved = field-at (slotWidth * (usedOf s - i)) (slots (drop i es)) unused split-at length-moved
 
-    flat-front : (u : ℕ) (r : List ℕ) → front u ++ r ≡ be 2 (slotsOf s) ++ (be 2 u ++ (be 2 slotWidth ++ (be 2 headerWidth ++ (zeros 8 ++ (slots (take i es) ++ r)))))
+    flat-front : (u : ℕ) (r : List ℕ)
+        → front u ++ r ≡ be 2 (slotsOf s) ++ (be 2 u ++ (be 2 slotWidth ++ (be 2 headerWidth ++ (zeros 8 ++ (slots (take i es) ++ r)))))
     flat-front u r = append-assoc (header (slotsOf s) u) (slots (take i es)) r ∙ flat-header (slotsOf s) u (slots (take i es) ++ r)
 
     counted : (u n : ℕ) (r t : List ℕ) → t ≡ front u ++ r → splice usedAt widthAt (be 2 n) t ≡ front n ++ r
     counted u n r t e =
-        splice-part usedAt widthAt (be 2 (slotsOf s)) (be 2 u) (be 2 n) _ t (e ∙ flat-front u r) (length-be 2 _) (omega (arith, length-be 2 u)) ∙ sym (flat-front n r)
+        splice-part usedAt widthAt (be 2 (slotsOf s)) (be 2 u) (be 2 n) _ t (e ∙ flat-front u r) (length-be 2 _) (omega (arith, length-be 2 u))
+        ∙ sym (flat-front n r)
 
     pub inserted : (e : Entry) → insertAt i (slotBytes e) s ≡ image (slotsOf s) (take i es ++ (e ∷ drop i es))
     unfolding insertAt slots
@@ -209,7 +218,8 @@ module _ (s : List ℕ) (k : Sound s) (i : ℕ) (le : i ≤ usedOf s) where
         let u = usedOf s in
         let w = slotBytes e ++ slots (drop i es) in
         let old = slots (drop i es) ++ zeros slotWidth in
-        let l : length old ≡ slotWidth * (u - i) + slotWidth = length-append (slots (drop i es)) (zeros slotWidth) ∙ omega (arith, length-moved, length-zeros slotWidth) in
+        let l : length old ≡ slotWidth * (u - i) + slotWidth =
+        length-append (slots (drop i es)) (zeros slotWidth) ∙ omega (arith, length-moved, length-zeros slotWidth) in
         let t = splice usedAt widthAt (be 2 (u + 1)) s in
         let is : t ≡ front (u + 1) ++ (old ++ left) =
         counted u (u + 1) _ s split-at ∙ ap (λ (z : List ℕ). front (u + 1) ++ (slots (drop i es) ++ z)) open-zeros ∙ simp append-assoc in

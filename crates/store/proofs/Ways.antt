@@ -33,7 +33,8 @@ use Rattle.store.specs.Offer.{offerAnswer, afterOffer}
 use Rattle.store.specs.Merge.{mergeAnswer, afterMerge}
 use Rattle.store.specs.declared.Placement.{Placement}
 use Rattle.store.specs.declared.Placement.the-variants.{Insert, Replace, Kept, Refused}
-use Rattle.store.specs.Unchecked.{seek, seen, isHeld, Placed, lookupUnchecked, replaceAt, insertAt, placementFor, placement, toldOf, writtenAt, afterPlaced, afterAll, countNew, offerUnchecked, afterOfferUnchecked}
+use Rattle.store.specs.Unchecked.{seek, seen, isHeld, Placed, lookupUnchecked, replaceAt, insertAt, placementFor, placement, toldOf, writtenAt}
+use Rattle.store.specs.Unchecked.{afterPlaced, afterAll, countNew, offerUnchecked, afterOfferUnchecked}
 use Rattle.store.proofs.HeldLaws.{none-of, some-of}
 use Rattle.store.proofs.Seeking.{seen-there, length-put-all}
 use Rattle.store.proofs.Splices.{opened}
@@ -177,7 +178,8 @@ module _ (s : List ℕ) (e : Entry) where
         let q : eqb (refusalOf e) 0 ≡ false = rw n (number-not-0 r) in
         (sym (rw (q, n)), sym (rw q))
 
-    pub offer-placed : v ≡ acceptance.Acceptable → (a : Answer) (t : List ℕ) → a ≡ toldOf (placement s e) → t ≡ afterPlaced s e → (a ≡ offerUnchecked s e) × (t ≡ afterOfferUnchecked s e)
+    pub offer-placed : v ≡ acceptance.Acceptable → (a : Answer) (t : List ℕ) → a ≡ toldOf (placement s e) → t ≡ afterPlaced s e
+        → (a ≡ offerUnchecked s e) × (t ≡ afterOfferUnchecked s e)
     unfolding offerUnchecked afterOfferUnchecked
     offer-placed h a t ae te =
         let q = eq-eqb (refusalOf e) 0 (sym ve ∙ ap refusalNumber h) in
@@ -193,7 +195,8 @@ count-one : (t : Bool) (n d m : ℕ) → m ≡ cond t 0 1 → n + m + d ≡ n + 
 count-one true n d m e = omega arith
 count-one false n d m e = omega arith
 
-pub count-next : (hs es : List Entry) (j : ℕ) (e : Entry) → drop j es ≡ e ∷ drop (suc j) es → (t : Bool) → t ≡ isHeld (seen (e .key) hs) → (n m : ℕ) → m ≡ cond t 0 1
+pub count-next : (hs es : List Entry) (j : ℕ) (e : Entry) → drop j es ≡ e ∷ drop (suc j) es → (t : Bool) → t ≡ isHeld (seen (e .key) hs) → (n m : ℕ)
+    → m ≡ cond t 0 1
     → n + m + countNew hs (drop (j + 1) es) ≡ n + countNew hs (drop j es)
 unfolding countNew
 count-next hs es j e split t te n m me = rw (split, ← te, add-one j) (count-one t n (countNew hs (drop (suc j) es)) m me)
@@ -207,7 +210,8 @@ one-most true m e = omega arith
 one-most false m e = omega arith
 
 -- a loop that offers the giver's entries
-pub give-next : (es : List Entry) (j : ℕ) (e : Entry) → drop j es ≡ e ∷ drop (suc j) es → (s t : List ℕ) → t ≡ afterPlaced s e → afterAll (drop (j + 1) es) t ≡ afterAll (drop j es) s
+pub give-next : (es : List Entry) (j : ℕ) (e : Entry) → drop j es ≡ e ∷ drop (suc j) es → (s t : List ℕ) → t ≡ afterPlaced s e
+    → afterAll (drop (j + 1) es) t ≡ afterAll (drop j es) s
 unfolding afterAll
 give-next es j e split s t te = rw (split, te, add-one j)
 

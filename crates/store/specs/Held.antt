@@ -11,7 +11,8 @@ infix 40 _∈_
 abbrev pub _∈_ : {A : Type 0} → A → List A → Type 0
 a ∈ l = List·Memᴰ a l
 
--- the entry is put in at its key's place, or replaces the held one of its key if it beats that, or the held one is kept
+-- the entry is put in at its key's place, or replaces the held one of its key if it beats that, or
+-- the held one is kept
 unfoldable pub put : Entry → List Entry → List Entry
 put e [] = e ∷ []
 put e (h ∷ hs) =

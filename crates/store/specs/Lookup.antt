@@ -14,7 +14,8 @@ use Rattle.store.specs.Held.{find, indexOf}
 use Rattle.store.specs.declared.Looked.{Looked}
 use Rattle.store.specs.declared.Looked.the-variants as looked
 
--- VALUE, with the place of the value in the store and its length; DELETED; NEVER; or a refusal with its number
+-- VALUE, with the place of the value in the store and its length; DELETED; NEVER; or a refusal with
+-- its number
 pub data Finding : Type 0 where
   value : (at len : ℕ) → Finding
   deleted never : Finding

@@ -19,7 +19,8 @@ use Rattle.store.specs.Offer.{offerAnswer, afterOffer}
 use Rattle.store.specs.Merge.{mergeAnswer, afterMerge}
 use Rattle.store.specs.Unchecked.{seek, lookupUnchecked, offerUnchecked, afterOfferUnchecked}
 
--- the logical count and the node id fit their fields, as those of every stamp that `offer` can be given do: they are a u16 and a u8
+-- the logical count and the node id fit their fields, as those of every stamp that `offer` can be
+-- given do: they are a u16 and a u8
 pub record Representable (e : Entry) : Type 0 where
   pub logical : e .stamp .logical < 2 ^ 16
   pub node : e .stamp .node < 2 ^ 8
@@ -54,7 +55,8 @@ KeptUnchanged = (s : List ℕ) (e : Entry) → offerAnswer s e ≡ kept → afte
 abbrev pub ValueStands : Type 0
 ValueStands = (s k : List ℕ) (at len : ℕ) → lookupAnswer s k ≡ value at len → (at + len ≤ length s) × (field at len s ≡ valuePart s k)
 
--- it finds an entry of its key in a store t: DELETED if it is a tombstone, else VALUE with its value's place; and its value
+-- it finds an entry of its key in a store t: DELETED if it is a tombstone, else VALUE with its
+-- value's place; and its value
 pub record Finds (t : List ℕ) (e : Entry) : Type 0 where
   pub told : lookupAnswer t (e .key) ≡ findingFor (indexOf (e .key) (entriesOf t)) (some e)
   pub part : valuePart t (e .key) ≡ e .value

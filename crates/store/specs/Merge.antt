@@ -8,7 +8,8 @@ use Rattle.image.specs.Image.{image, slotsOf, entriesOf, sound}
 use Rattle.store.specs.Held.{putAll}
 use Rattle.store.specs.Answer.{Answer, merged, refused, isRefused}
 
--- 5 for the receiver, 5 for the giver, then 6 if the distinct keys held after the call would exceed the receiver's slots
+-- 5 for the receiver, 5 for the giver, then 6 if the distinct keys held after the call would exceed
+-- the receiver's slots
 unfoldable pub mergeAnswer : List ℕ → List ℕ → Answer
 mergeAnswer receiver giver =
     cond (not (sound receiver)) (refused 5)

@@ -10,7 +10,8 @@ use Rattle.image.specs.Image.{image, slotsOf, entriesOf, sound}
 use Rattle.store.specs.Held.{put, find}
 use Rattle.store.specs.Answer.{Answer, stored, replaced, kept, refused, isRefused}
 
--- no held entry, it is stored; a held one that it beats, it replaces; otherwise the held one is kept
+-- no held entry, it is stored; a held one that it beats, it replaces; otherwise the held one is
+-- kept
 unfoldable pub told : Entry → Option Entry → Answer
 told e none = stored
 told e (some h) = cond (beats e h) replaced kept

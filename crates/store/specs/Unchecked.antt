@@ -1,5 +1,6 @@
--- The calls without the test of soundness, on any bytes: they follow the slots as they stand. Meaning says what that is worth:
--- on a sound store they are the calls themselves, and on any bytes an offer is told as stored or replaced only where it was.
+-- The calls without the test of soundness, on any bytes: they follow the slots as they stand.
+-- Meaning says what that is worth: on a sound store they are the calls themselves, and on any bytes
+-- an offer is told as stored or replaced only where it was.
 use mathlib.Core.Path.{_≡_}
 use Prim.Native.Nat.{ℕ, zero, suc, _+_, _-_, _*_, _<_}
 use mathlib.Core.Bool.{Bool, true, false, cond, not}
@@ -69,7 +70,8 @@ insertAt i w s =
 
 -- ---- offering an acceptable entry
 
--- where it goes, by what is seen of its key; BAD_STORE where the bytes do not have the slot that is to be written
+-- where it goes, by what is seen of its key; BAD_STORE where the bytes do not have the slot that is
+-- to be written
 unfoldable pub placementFor : List ℕ → Entry → Option Entry → Placement
 placementFor s e none =
     cond (leb (slotsOf s) (usedOf s)) (Refused StoreFull)

@@ -1,4 +1,5 @@
-// The entry store: a new store, looking a key up, offering an entry, and merging one store into another.
+// The entry store: a new store, looking a key up, offering an entry, and merging one store into
+// another.
 mod write;
 
 use entry::Acceptance;
@@ -223,11 +224,11 @@ fn place_entry(store: &mut [u8], key: &[u8], value: &[u8], flag: u8, stamp: Stam
     }
 }
 
-// Offers an entry with no test of soundness: for a caller that has tested it, and no entry point
-// of the module. On a sound store it is `offer`. On other bytes it follows the slots as they stand:
-// the entry may go to a wrong place among them, or be refused with StoreFull, or with BadStore where
-// the bytes do not have the slot that is to be written. It answers Stored or Replaced only if the
-// entry was written.
+// Offers an entry with no test of soundness: for a caller that has tested it, and no entry point of
+// the module. On a sound store it is `offer`. On other bytes it follows the slots as they stand:
+// the entry may go to a wrong place among them, or be refused with StoreFull, or with BadStore
+// where the bytes do not have the slot that is to be written. It answers Stored or Replaced only if
+// the entry was written.
 pub fn offer_unchecked(
     store: &mut [u8],
     key: &[u8],

@@ -30,7 +30,8 @@ fn shift_up(part: &mut [u8])
     }
 }
 
-// Counts one slot more, and moves the used slots from slot `at` on up by one. The bytes of slot `at` stay, to be written over.
+// Counts one slot more, and moves the used slots from slot `at` on up by one. The bytes of slot
+// `at` stay, to be written over.
 pub(crate) fn open_slot(store: &mut [u8], at: usize)
     requires { ⌜ (at ≤ usedOf (now store)) × (slotStart (usedOf (now store) + 1) ≤ length (now store)) ⌝ }
     ensures { λ _. ⌜ now (store .exit) ≡ insertAt at (slotAt at (now (store .entry))) (now (store .entry)) ⌝ }

@@ -93,15 +93,25 @@ same-length c = search needs
 returns-2 : tie.Need-returns-2
 unfolding slotWith slotBytes slotBody
 returns-2 c =
-    let a = c .before .before .before .before .before .before .before .before .before .before .before .before .before .before .before .before .before .before .before .before .before .before .before .args in
+    let at-put-be = c .before .before in
+    let at-crc32c = at-put-be .before .before in
+    let at-put-padded2 = at-crc32c .before .before .before .before .before in
+    let at-put-padded = at-put-padded2 .before .before .before .before in
+    let at-put-head = at-put-padded .before .before .before .before in
+    let at-if1 = at-put-head .before .before in
+    let start = at-if1 .before .before .before .before in
+    let a = start .args in
     let s = a .slot .now in
-    let n : length s ≡ slotWidth = c .before .before .before .before .before .before .before .before .before .before .before .before .before .before .before .before .before .before .before .if1 .left in
+    let n : length s ≡ slotWidth = at-if1 .if1 .left in
     let e = entryOf (a .key .now) (a .value .now) (a .flag) (a .stamp) in
-    let w1 = write-next (λ (w : ℕ). slotHead e) 0 keyAt _ s _ _ (length-head e) (omega arith) (written-none s) (c .before .before .before .before .before .before .before .before .before .before .before .before .before .before .before .before .before .put-head .ensures) in
-    let w2 = write-next (λ (w : ℕ). padded w (e .key)) keyAt keyWidth _ s _ _ (length-padded keyWidth _) (omega arith) w1 (c .before .before .before .before .before .before .before .before .before .before .before .before .before .put-padded .ensures) in
-    let w3 = write-next (λ (w : ℕ). padded w (e .value)) valueAt valueWidth _ s _ _ (length-padded valueWidth _) (omega arith) w2 (c .before .before .before .before .before .before .before .before .before .put-padded2 .ensures) in
-    let sum : c .before .before .before .before .crc32c .result ≡ crc32c (slotBody e) = c .before .before .before .before .crc32c .ensures ∙ ap crc32c (ap (take bodyWidth) (w3 .is) ∙ take-at (slotBody e) (drop bodyWidth s) bodyWidth (w3 .long)) in
-    let w4 = write-next (λ (w : ℕ). be w (c .before .before .before .before .crc32c .result)) bodyWidth 4 _ s _ _ (length-be 4 _) (omega arith) w3 (c .before .before .put-be .ensures) in
+    let w1 = write-next (λ (w : ℕ). slotHead e) 0 keyAt _ s _ _ (length-head e) (omega arith) (written-none s) (at-put-head .put-head .ensures) in
+    let w2 = write-next (λ (w : ℕ). padded w (e .key)) keyAt keyWidth _ s _ _ (length-padded keyWidth _) (omega arith) w1
+    (at-put-padded .put-padded .ensures) in
+    let w3 = write-next (λ (w : ℕ). padded w (e .value)) valueAt valueWidth _ s _ _ (length-padded valueWidth _) (omega arith) w2
+    (at-put-padded2 .put-padded2 .ensures) in
+    let sum : at-crc32c .crc32c .result ≡ crc32c (slotBody e) = at-crc32c .crc32c .ensures
+    ∙ ap crc32c (ap (take bodyWidth) (w3 .is) ∙ take-at (slotBody e) (drop bodyWidth s) bodyWidth (w3 .long)) in
+    let w4 = write-next (λ (w : ℕ). be w (at-crc32c .crc32c .result)) bodyWidth 4 _ s _ _ (length-be 4 _) (omega arith) w3 (at-put-be .put-be .ensures) in
     written-all slotWidth _ s _ n w4 ∙ ap (λ (x : ℕ). slotBody e ++ be 4 x) sum ∙ sym (rw (eq-eqb (length s) slotWidth n))
 
 pub put-slot-spec : {M : Type 1} → statement M

@@ -12,7 +12,8 @@ use Rattle.store.proofs.count_new.Statement.{statement}
 use Rattle.store.proofs.count_new.Tie as tie
 
 abbrev Inv-loop : tie.InvT-loop
-Inv-loop receiver giver used n₀ j₀ n j = (n + countNew (entriesOf receiver) (drop j (entriesOf giver)) ≡ countNew (entriesOf receiver) (entriesOf giver)) × (n ≤ j)
+Inv-loop receiver giver used n₀ j₀ n j =
+    (n + countNew (entriesOf receiver) (drop j (entriesOf giver)) ≡ countNew (entriesOf receiver) (entriesOf giver)) × (n ≤ j)
 
 abbrev μ-loop : tie.MeasureT-loop
 μ-loop receiver giver used n₀ j₀ n j = used - j
@@ -36,10 +37,23 @@ tally-requires : tie.Need-tally-requires Inv-loop μ-loop
 tally-requires c κs = search needs
 
 add-n : tie.Need-add-n Inv-loop μ-loop
-add-n c = omega (arith, c .before .before .before .before .before .before .used-count .ensures .1, c .before .before .before .before .loop-test .taken, c .before .before .before .before .before .loop .inv .1, one-most (c .before .seek .result .held) (c .tally .result) (c .tally .ensures))
+add-n c =
+    let turn = c .before .before .before .before in
+    let head = turn .before in
+    let at-used-count = head .before in
+    omega (
+      arith,
+      at-used-count .used-count .ensures .1,
+      turn .loop-test .taken,
+      head .loop .inv .1,
+      one-most (c .before .seek .result .held) (c .tally .result) (c .tally .ensures),
+    )
 
 add-j : tie.Need-add-j Inv-loop μ-loop
-add-j c = omega (arith, c .before .before .before .before .before .before .used-count .ensures .1, c .before .before .before .before .loop-test .taken)
+add-j c =
+    let turn = c .before .before .before .before in
+    let at-used-count = turn .before .before in
+    omega (arith, at-used-count .used-count .ensures .1, turn .loop-test .taken)
 
 loop-less : tie.Need-loop-less Inv-loop μ-loop
 loop-less c = omega (arith, c .before .before .before .before .loop-test .taken)
@@ -47,16 +61,29 @@ loop-less c = omega (arith, c .before .before .before .before .loop-test .taken)
 loop-again : tie.Need-loop-again Inv-loop μ-loop
 unfolding slotEntry
 loop-again c =
-    let a = c .before .before .before .before .before .before .before .before .before .args in
-    let j = c .before .before .before .before .before .loop .j in
+    let at-slot-key = c .before .before in
+    let at-slot = at-slot-key .before in
+    let turn = at-slot .before in
+    let head = turn .before in
+    let at-used-count = head .before in
+    let start = at-used-count .before .before .before in
+    let a = start .args in
+    let j = head .loop .j in
     let g = a .giver .now in
-    let hs = entriesOf (a .receiver .now) in
-    (count-next hs (entriesOf g) j _ (entry-at j g (omega (arith, c .before .before .before .before .before .before .used-count .ensures .0, c .before .before .before .before .loop-test .taken))) _ (c .before .seek .ensures .known ∙ ap (λ (k : List ℕ). isHeld (seen k hs)) (c .before .before .slot-key .ensures ∙ ap keyIn (c .before .before .before .slot .ensures))) _ _ (c .tally .ensures) ∙ c .before .before .before .before .before .loop .inv .0, omega (arith, c .before .before .before .before .before .loop .inv .1, one-most (c .before .seek .result .held) (c .tally .result) (c .tally .ensures)))
+    let hs = entriesOf (a .receiver .now) in (
+      count-next hs (entriesOf g) j _ (entry-at j g (omega (arith, at-used-count .used-count .ensures .0, turn .loop-test .taken))) _
+          (c .before .seek .ensures .known ∙ ap (λ (k : List ℕ). isHeld (seen k hs)) (at-slot-key .slot-key .ensures ∙ ap keyIn (at-slot .slot .ensures))) _ _
+          (c .tally .ensures) ∙ head .loop .inv .0,
+      omega (arith, head .loop .inv .1, one-most (c .before .seek .result .held) (c .tally .result) (c .tally .ensures)),
+    )
 
 returns : tie.Need-returns Inv-loop μ-loop
 returns c =
-    let g = c .before .before .before .before .before .args .giver .now in
-    count-end _ (entriesOf g) (c .before .loop .j) _ _ (omega (arith, c .before .before .used-count .ensures .0, c .loop-test .left, used-is g)) (c .before .loop .inv .0)
+    let at-used-count = c .before .before in
+    let start = at-used-count .before .before .before in
+    let g = start .args .giver .now in
+    count-end _ (entriesOf g) (c .before .loop .j) _ _ (omega (arith, at-used-count .used-count .ensures .0, c .loop-test .left, used-is g))
+    (c .before .loop .inv .0)
 
 pub count-new-spec : {M : Type 1} → statement M
 count-new-spec =

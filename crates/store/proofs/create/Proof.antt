@@ -27,7 +27,11 @@ add-if3 : tie.Need-add-if3
 add-if3 c = search needs
 
 returns-3 : tie.Need-returns-3
-returns-3 c = let a = c .before .before .before .before .args in create-size (a .buffer .now) (a .slots) (c .before .before .if1 .left) (c .before .if2 .left) (c .if3 .taken)
+returns-3 c =
+    let at-if1 = c .before .before in
+    let start = at-if1 .before .before in
+    let a = start .args in
+    create-size (a .buffer .now) (a .slots) (at-if1 .if1 .left) (c .before .if2 .left) (c .if3 .taken)
 
 sub-put-header : tie.Need-sub-put-header
 sub-put-header c = search needs
@@ -58,13 +62,20 @@ same-length c = search needs
 
 returns-4 : tie.Need-returns-4
 returns-4 c =
-    let a = c .before .before .before .before .before .before .before .before .before .before .before .before .args in
+    let at-put-be = c .before .before in
+    let at-put-header = at-put-be .before .before .before .before in
+    let at-if3 = at-put-header .before .before in
+    let at-if2 = at-if3 .before in
+    let at-if1 = at-if2 .before in
+    let start = at-if1 .before .before in
+    let a = start .args in
     let s = a .buffer .now in
-    let n : length s ≡ slotStart (a .slots) = c .before .before .before .before .before .before .before .before .if3 .left in
+    let n : length s ≡ slotStart (a .slots) = at-if3 .if3 .left in
     let w1 = write-next (λ (w : ℕ). header (a .slots) 0) 0 headerWidth _ s _ _ (length-header _ _) (omega arith) (written-none s)
-    (c .before .before .before .before .before .before .put-header .ensures ∙ header-with (a .slots) 0 _ (length-take-le headerWidth s (omega arith))) in
-    let w2 = write-next zeros headerWidth (length s - headerWidth) _ s _ _ (length-zeros _) (omega arith) w1 (c .before .before .put-be .ensures ∙ be-zeros _) in
-    create-done s (a .slots) (c .before .before .before .before .before .before .before .before .before .before .if1 .left) (c .before .before .before .before .before .before .before .before .before .if2 .left) n _ (written-all (headerWidth + (length s - headerWidth)) _ s _ (omega arith) w2 ∙ fresh-bytes (a .slots) (length s - headerWidth) (omega arith))
+    (at-put-header .put-header .ensures ∙ header-with (a .slots) 0 _ (length-take-le headerWidth s (omega arith))) in
+    let w2 = write-next zeros headerWidth (length s - headerWidth) _ s _ _ (length-zeros _) (omega arith) w1 (at-put-be .put-be .ensures ∙ be-zeros _) in
+    create-done s (a .slots) (at-if1 .if1 .left) (at-if2 .if2 .left) n _
+    (written-all (headerWidth + (length s - headerWidth)) _ s _ (omega arith) w2 ∙ fresh-bytes (a .slots) (length s - headerWidth) (omega arith))
 
 pub create-spec : {M : Type 1} → statement M
 create-spec =

@@ -50,7 +50,9 @@ add-given c =
     omega (arith, turn .before .before .used-count .ensures .1, turn .loop-test .taken)
 
 loop-less : tie.Need-loop-less Inv-loop μ-loop
-loop-less c = omega (arith, c .before .before .before .before .before .loop-test .taken)
+loop-less c =
+    let turn = c .before .before .before .before .before in
+    omega (arith, turn .loop-test .taken)
 
 loop-again : tie.Need-loop-again Inv-loop μ-loop
 unfolding afterPlaced
@@ -70,8 +72,11 @@ same-length c = c .before .loop .inv .1
 
 returns : tie.Need-returns Inv-loop μ-loop
 returns c =
-    let g = c .before .before .before .before .before .args .giver .now in
-    give-end (entriesOf g) (c .before .loop .given) _ _ (omega (arith, c .before .before .used-count .ensures .0, c .loop-test .left, used-is g)) (c .before .loop .inv .0)
+    let at-used-count = c .before .before in
+    let start = at-used-count .before .before .before in
+    let g = start .args .giver .now in
+    give-end (entriesOf g) (c .before .loop .given) _ _ (omega (arith, at-used-count .used-count .ensures .0, c .loop-test .left, used-is g))
+    (c .before .loop .inv .0)
 
 pub give-all-spec : {M : Type 1} → statement M
 give-all-spec =

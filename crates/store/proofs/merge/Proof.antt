@@ -20,7 +20,8 @@ same-length c = search needs
 
 returns : tie.Need-returns
 returns c =
-    let a = c .before .before .before .before .before .args in
+    let start = c .before .before .before .before .before in
+    let a = start .args in
     merge-5 (a .receiver .now) (a .giver .now) (sym (c .before .is-sound .ensures) ∙ not-true _ (c .if1 .taken))
 
 receiver-sound : (c : tie.Else1) → sound (c .before .before .before .before .before .args .receiver .now) ≡ true
@@ -57,7 +58,16 @@ add-if3 c =
     let a = g .before .before .before .before .before .before .before .args in
     let k : Sound (a .giver .now) = sound-is (a .giver .now) (giver-sound g) in
     let n : c .count-new .result ≡ countNew (entriesOf (a .receiver .now)) (entriesOf (a .giver .now)) = c .count-new .ensures in
-    omega (arith, n, used .used-count .ensures .1, count-most (entriesOf (a .receiver .now)) (entriesOf (a .giver .now)), used-is (a .giver .now), k .room, k .most)
+    omega (
+      arith,
+      n,
+      used .used-count .ensures .1,
+      count-most (entriesOf (a .receiver .now)) (entriesOf (a .giver .now)),
+      used-is
+          (a .giver .now),
+      k .room,
+      k .most,
+    )
 
 same-length-3 : tie.Need-same-length-3
 same-length-3 c = search needs
@@ -74,7 +84,9 @@ returns-3 c =
     (slots .slot-count .ensures .0) (used .used-count .ensures .0) (new .count-new .ensures) (c .if3 .taken)
 
 give-all-requires : tie.Need-give-all-requires
-give-all-requires c κs = giver-sound (c .before .before .before .before .before .before .before .before)
+give-all-requires c κs =
+    let at-slot-count-arg = c .before .before .before .before .before .before .before in
+    giver-sound (at-slot-count-arg .before)
 
 same-length-4 : tie.Need-same-length-4
 same-length-4 c = search needs

@@ -18,16 +18,23 @@ place-entry-requires c κs = search needs
 
 returns : tie.Need-returns
 returns c =
-    let a = c .before .before .before .before .before .before .before .args in
-    offer-refused (a .store .now) (entryOf (a .key .now) (a .value .now) (a .flag) (a .stamp)) _ (c .before .before .before .judge .ensures) _ (c .before .verdict .given .1)
+    let at-judge = c .before .before .before in
+    let start = at-judge .before .before .before .before in
+    let a = start .args in
+    offer-refused (a .store .now) (entryOf (a .key .now) (a .value .now) (a .flag) (a .stamp)) _ (at-judge .judge .ensures) _ (c .before .verdict .given .1)
 
 same-length : tie.Need-same-length
 same-length c = search needs
 
 returns-2 : tie.Need-returns-2
 returns-2 c =
-    let a = c .before .before .before .before .before .before .before .before .before .before .args in
-    offer-placed (a .store .now) (entryOf (a .key .now) (a .value .now) (a .flag) (a .stamp)) _ (c .before .before .before .before .before .before .judge .ensures) (c .before .before .before .before .enum-told .given .1) _ _ (c .before .before .place-entry .ensures .0) (c .before .before .place-entry .ensures .1)
+    let at-place-entry = c .before .before in
+    let at-enum-told = at-place-entry .before .before in
+    let at-judge = at-enum-told .before .before in
+    let start = at-judge .before .before .before .before in
+    let a = start .args in
+    offer-placed (a .store .now) (entryOf (a .key .now) (a .value .now) (a .flag) (a .stamp)) _ (at-judge .judge .ensures)
+    (at-enum-told .enum-told .given .1) _ _ (at-place-entry .place-entry .ensures .0) (at-place-entry .place-entry .ensures .1)
 
 pub offer-unchecked-spec : {M : Type 1} → statement M
 offer-unchecked-spec =

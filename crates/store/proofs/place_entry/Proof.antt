@@ -68,8 +68,11 @@ returns-2 c =
     let found = at .before .before in
     let a = found .before .before .before .before .before .args in
     let e = entryOf (a .key .now) (a .value .now) (a .flag) (a .stamp) in
-    let k = found .placement-of .ensures in
-    (told-as (a .store .now) e _ k _ (at .placement2 .given .1), left-as (a .store .now) e _ k _ (at .placement2 .given .1) (slotBytes e) _ (written .write-entry2 .ensures))
+    let k = found .placement-of .ensures in (
+      told-as (a .store .now) e _ k _ (at .placement2 .given .1),
+      left-as (a .store .now) e _ k _ (at .placement2 .given .1) (slotBytes e) _
+          (written .write-entry2 .ensures),
+    )
 
 same-length-3 : tie.Need-same-length-3
 same-length-3 c = search needs

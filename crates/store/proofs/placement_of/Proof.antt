@@ -1,12 +1,12 @@
 use borrow.Author.Needs.{needs}
 use borrow.Author.Tests.{not-true, not-false}
 use native.Mathlib.Omega.{arith}
-use mathlib.Core.Path.{sym, ap, _∙_}
+use mathlib.Core.Path.{_≡_, sym, ap, _∙_}
 use mathlib.Core.List.{List}
-use Prim.Native.Nat.{ℕ}
-use Rattle.entry.specs.Entry.{entryOf, beats}
-use Rattle.image.specs.Image.{slotEntry}
-use Rattle.image.specs.Slot.{hasSlot}
+use Prim.Native.Nat.{ℕ, _<_}
+use Rattle.entry.specs.Entry.{Entry, entryOf, beats}
+use Rattle.image.specs.Image.{slotEntry, slotsOf, usedOf}
+use Rattle.image.specs.Slot.{slotAt, hasSlot}
 use Rattle.store.proofs.Ways.{place-kept, place-cut, place-over, place-full, place-short, place-new}
 use Rattle.store.proofs.placement_of.Statement.{statement}
 use Rattle.store.proofs.placement_of.Tie as tie
@@ -20,41 +20,38 @@ slot-requires c κs = search needs
 beats-slot-requires : tie.Need-beats-slot-requires
 beats-slot-requires c κs = search needs
 
+-- the entry that is offered
+abbrev entry : tie.Start → Entry
+entry c = entryOf (c .args .key .now) (c .args .value .now) (c .args .flag) (c .args .stamp)
+
+beaten : (c : tie.After-beats-slot) → let sought = c .before .before .before in let start = sought .before .before .before .before in
+    c .beats-slot .result ≡ beats (entry start) (slotEntry (slotAt (sought .seek .result .at) (start .args .store .now)))
+beaten c =
+    let start = c .before .before .before .before .before .before .before in
+    c .beats-slot .ensures ∙ ap (λ (l : List ℕ). beats (entry start) (slotEntry l)) (c .before .slot .ensures)
+
 returns : tie.Need-returns
 returns c =
-    let beaten = c .before in
-    let held = beaten .before .before in
-    let a = held .before .before .before .before .before .args in
-    let e = entryOf (a .key .now) (a .value .now) (a .flag) (a .stamp) in
-    place-kept (a .store .now) e _ _ (held .before .seek .ensures) (held .if1 .taken)
-    (sym (beaten .beats-slot .ensures ∙ ap (λ (l : List ℕ). beats e (slotEntry l)) (beaten .before .slot .ensures)) ∙ not-true _ (c .if2 .taken))
+    let held = c .before .before .before in
+    place-kept _ (entry (held .before .before .before .before .before)) _ _ (held .before .seek .ensures) (held .if1 .taken)
+    (sym (beaten (c .before)) ∙ not-true _ (c .if2 .taken))
 
 has-slot-requires : tie.Need-has-slot-requires
 has-slot-requires c κs = search needs
 
 returns-2 : tie.Need-returns-2
 returns-2 c =
-    let whole = c .before in
-    let beats-it = whole .before in
-    let beaten = beats-it .before in
-    let held = beaten .before .before in
-    let a = held .before .before .before .before .before .args in
-    let e = entryOf (a .key .now) (a .value .now) (a .flag) (a .stamp) in
-    place-cut (a .store .now) e _ _ (held .before .seek .ensures) (held .if1 .taken)
-    (sym (beaten .beats-slot .ensures ∙ ap (λ (l : List ℕ). beats e (slotEntry l)) (beaten .before .slot .ensures)) ∙ not-false _ (beats-it .if2 .left))
-    (sym (whole .has-slot .ensures) ∙ not-true _ (c .if3 .taken))
+    let better = c .before .before in
+    let held = better .before .before .before in
+    place-cut _ (entry (held .before .before .before .before .before)) _ _ (held .before .seek .ensures) (held .if1 .taken)
+    (sym (beaten (better .before)) ∙ not-false _ (better .if2 .left)) (sym (c .before .has-slot .ensures) ∙ not-true _ (c .if3 .taken))
 
 returns-3 : tie.Need-returns-3
 returns-3 c =
-    let whole = c .before in
-    let beats-it = whole .before in
-    let beaten = beats-it .before in
-    let held = beaten .before .before in
-    let a = held .before .before .before .before .before .args in
-    let e = entryOf (a .key .now) (a .value .now) (a .flag) (a .stamp) in
-    place-over (a .store .now) e _ _ (held .before .seek .ensures) (held .if1 .taken)
-    (sym (beaten .beats-slot .ensures ∙ ap (λ (l : List ℕ). beats e (slotEntry l)) (beaten .before .slot .ensures)) ∙ not-false _ (beats-it .if2 .left))
-    (sym (whole .has-slot .ensures) ∙ not-false _ (c .if3 .left))
+    let better = c .before .before in
+    let held = better .before .before .before in
+    place-over _ (entry (held .before .before .before .before .before)) _ _ (held .before .seek .ensures) (held .if1 .taken)
+    (sym (beaten (better .before)) ∙ not-false _ (better .if2 .left)) (sym (c .before .has-slot .ensures) ∙ not-false _ (c .if3 .left))
 
 used-count-requires : tie.Need-used-count-requires
 used-count-requires c κs = search needs
@@ -64,41 +61,36 @@ slot-count-requires c κs = search needs
 
 returns-4 : tie.Need-returns-4
 returns-4 c =
-    let slots = c .before in
-    let used = slots .before in
-    let free = used .before in
-    let a = free .before .before .before .before .before .args in
-    place-full (a .store .now) (entryOf (a .key .now) (a .value .now) (a .flag) (a .stamp)) _ _ (free .before .seek .ensures) (free .if1 .left)
-    (omega (arith, slots .slot-count .ensures .0, used .used-count .ensures .0, c .if4 .taken))
+    let free = c .before .before .before in
+    place-full _ (entry (free .before .before .before .before .before)) _ _ (free .before .seek .ensures) (free .if1 .left)
+    (omega (arith, c .before .slot-count .ensures .0, c .before .before .used-count .ensures .0, c .if4 .taken))
+
+-- there is room by the counts
+room : (c : tie.Else4) → let s = c .before .before .before .before .before .before .before .before .args .store .now in usedOf s < slotsOf s
+room c = omega (arith, c .before .slot-count .ensures .0, c .before .before .used-count .ensures .0, c .if4 .left)
+
+-- and the bytes are tested for it
+tested : (c : tie.After-has-slot2) → let s = c .before .before .before .before .before .before .before .before .before .args .store .now in
+    hasSlot (usedOf s) s ≡ c .has-slot2 .result
+tested c =
+    let used = c .before .before .before in
+    let s = used .before .before .before .before .before .before .args .store .now in
+    ap (λ (u : ℕ). hasSlot u s) (sym (used .used-count .ensures .0)) ∙ sym (c .has-slot2 .ensures)
 
 has-slot-requires-2 : tie.Need-has-slot-requires-2
 has-slot-requires-2 c κs = search needs
 
 returns-5 : tie.Need-returns-5
 returns-5 c =
-    let whole = c .before in
-    let room = whole .before in
-    let slots = room .before in
-    let used = slots .before in
-    let free = used .before in
-    let a = free .before .before .before .before .before .args in
-    let s = a .store .now in
-    place-short s (entryOf (a .key .now) (a .value .now) (a .flag) (a .stamp)) _ _ (free .before .seek .ensures) (free .if1 .left)
-    (omega (arith, slots .slot-count .ensures .0, used .used-count .ensures .0, room .if4 .left))
-    (ap (λ (u : ℕ). hasSlot u s) (sym (used .used-count .ensures .0)) ∙ sym (whole .has-slot2 .ensures) ∙ not-true _ (c .if5 .taken))
+    let free = c .before .before .before .before .before in
+    place-short _ (entry (free .before .before .before .before .before)) _ _ (free .before .seek .ensures) (free .if1 .left) (room (c .before .before))
+    (tested (c .before) ∙ not-true _ (c .if5 .taken))
 
 returns-6 : tie.Need-returns-6
 returns-6 c =
-    let whole = c .before in
-    let room = whole .before in
-    let slots = room .before in
-    let used = slots .before in
-    let free = used .before in
-    let a = free .before .before .before .before .before .args in
-    let s = a .store .now in
-    place-new s (entryOf (a .key .now) (a .value .now) (a .flag) (a .stamp)) _ _ (free .before .seek .ensures) (free .if1 .left)
-    (omega (arith, slots .slot-count .ensures .0, used .used-count .ensures .0, room .if4 .left))
-    (ap (λ (u : ℕ). hasSlot u s) (sym (used .used-count .ensures .0)) ∙ sym (whole .has-slot2 .ensures) ∙ not-false _ (c .if5 .left))
+    let free = c .before .before .before .before .before in
+    place-new _ (entry (free .before .before .before .before .before)) _ _ (free .before .seek .ensures) (free .if1 .left) (room (c .before .before))
+    (tested (c .before) ∙ not-false _ (c .if5 .left))
 
 pub placement-of-spec : {M : Type 1} → statement M
 placement-of-spec =

@@ -1,9 +1,10 @@
 use borrow.Author.Needs.{needs}
 use native.Mathlib.Omega.{arith}
-use mathlib.Core.Path.{ap, _∙_}
-use Prim.Native.Nat.{_-_, _≤_}
+use mathlib.Core.Path.{_≡_, ap, _∙_}
+use Prim.Native.Nat.{_-_, _≤_, _<_}
 use Rattle.wire.specs.Order.{comparison}
-use Rattle.image.specs.Image.{keyIn, slotEntry, entriesOf}
+use Rattle.image.specs.Image.{keyIn, slotEntry, usedOf, entriesOf}
+use Rattle.image.specs.Slot.{slotAt}
 use Rattle.image.proofs.ImageLaws.{entry-at, used-is}
 use Rattle.store.proofs.Seeking.{Seeking, seeking-none, seek-end, seek-below, seek-same, seek-above}
 use Rattle.store.proofs.seek.Statement.{statement}
@@ -33,67 +34,60 @@ compare-requires c κs = search needs
 enum-told : tie.Need-enum-told Inv-loop μ-loop
 enum-told c = search needs
 
-returns : tie.Need-returns Inv-loop μ-loop
+-- slot i is in use, its entry is the next, and its key is compared
+used : (c : tie.In-loop Inv-loop μ-loop) → c .before .loop .i < usedOf (c .before .before .before .before .before .args .store .now)
+used c = omega (arith, c .before .before .used-count .ensures .0, c .loop-test .taken)
+
+small : (c : tie.In-loop Inv-loop μ-loop) → c .before .loop .i < 65536
+small c = omega (arith, c .before .before .used-count .ensures .1, c .loop-test .taken)
+
+compared : (c : tie.After-compare Inv-loop μ-loop) → let head = c .before .before .before .before in let a = head .before .before .before .before .args in
+    c .compare .result ≡ comparison (a .key .now) (slotEntry (slotAt (head .loop .i) (a .store .now)) .key)
 unfolding slotEntry
+compared c =
+    let key = c .before .before .before .before .before .before .before .before .args .key .now in
+    c .compare .ensures ∙ ap (comparison key) (c .before .slot-key .ensures ∙ ap keyIn (c .before .before .slot .ensures))
+
+returns : tie.Need-returns Inv-loop μ-loop
 returns c =
-    let seen = c .before .before in
-    let read = seen .before .before in
-    let turn = read .before in
+    let turn = c .before .before .before .before .before in
     let head = turn .before in
-    let used = head .before .used-count in
     let a = head .before .before .before .before .args in
-    let s = a .store .now in
     let i = head .loop .i in
-    seek-below (a .key .now) (entriesOf s) i (head .loop .inv .0) (omega (arith, used .ensures .1, turn .loop-test .taken)) _
-    (entry-at i s (omega (arith, used .ensures .0, turn .loop-test .taken))) _
-    (seen .compare .ensures ∙ ap (comparison (a .key .now)) (seen .before .slot-key .ensures ∙ ap keyIn (read .slot .ensures)))
-    (c .enum-told .given .1)
+    seek-below (a .key .now) _ i (head .loop .inv .0) (small turn) _ (entry-at i (a .store .now) (used turn)) _
+    (compared (c .before .before)) (c .enum-told .given .1)
 
 enum-told-2 : tie.Need-enum-told-2 Inv-loop μ-loop
 enum-told-2 c = search needs
 
 returns-2 : tie.Need-returns-2 Inv-loop μ-loop
-unfolding slotEntry
 returns-2 c =
-    let seen = c .before .before in
-    let read = seen .before .before in
-    let turn = read .before in
+    let turn = c .before .before .before .before .before in
     let head = turn .before in
-    let used = head .before .used-count in
     let a = head .before .before .before .before .args in
-    let s = a .store .now in
     let i = head .loop .i in
-    seek-same (a .key .now) (entriesOf s) i (head .loop .inv .0) (omega (arith, used .ensures .1, turn .loop-test .taken)) _
-    (entry-at i s (omega (arith, used .ensures .0, turn .loop-test .taken))) _
-    (seen .compare .ensures ∙ ap (comparison (a .key .now)) (seen .before .slot-key .ensures ∙ ap keyIn (read .slot .ensures)))
-    (c .enum-told2 .given .1)
+    seek-same (a .key .now) _ i (head .loop .inv .0) (small turn) _ (entry-at i (a .store .now) (used turn)) _
+    (compared (c .before .before)) (c .enum-told2 .given .1)
 
 enum-told-3 : tie.Need-enum-told-3 Inv-loop μ-loop
 enum-told-3 c = search needs
 
 add-i : tie.Need-add-i Inv-loop μ-loop
-add-i c = omega (arith, c .before .before .before .before .before .before .before .used-count .ensures .1, c .before .before .before .before .before .loop-test .taken)
+add-i c =
+    let turn = c .before .before .before .before .before in
+    omega (arith, turn .before .before .used-count .ensures .1, turn .loop-test .taken)
 
 loop-less : tie.Need-loop-less Inv-loop μ-loop
 loop-less c = omega (arith, c .before .before .before .before .before .loop-test .taken)
 
 loop-again : tie.Need-loop-again Inv-loop μ-loop
-unfolding slotEntry
 loop-again c =
-    let seen = c .before .before in
-    let read = seen .before .before in
-    let turn = read .before in
+    let turn = c .before .before .before .before .before in
     let head = turn .before in
-    let used = head .before .used-count in
     let a = head .before .before .before .before .args in
-    let s = a .store .now in
-    let i = head .loop .i in (
-      seek-above (a .key .now) (entriesOf s) i (head .loop .inv .0) (omega (arith, used .ensures .1, turn .loop-test .taken)) _
-          (entry-at i s (omega (arith, used .ensures .0, turn .loop-test .taken))) _
-          (seen .compare .ensures ∙ ap (comparison (a .key .now)) (seen .before .slot-key .ensures ∙ ap keyIn (read .slot .ensures)))
-          (c .enum-told3 .given .1),
-      omega (arith, turn .loop-test .taken),
-    )
+    let i = head .loop .i in
+    let above = seek-above (a .key .now) _ i (head .loop .inv .0) (small turn) _ (entry-at i (a .store .now) (used turn)) _ (compared (c .before .before)) in
+    (above (c .enum-told3 .given .1), omega (arith, turn .loop-test .taken))
 
 returns-3 : tie.Need-returns-3 Inv-loop μ-loop
 returns-3 c =

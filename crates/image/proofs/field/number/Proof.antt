@@ -16,9 +16,11 @@ get-be-requires c κs = search needs
 
 returns : tie.Need-returns
 returns c =
-    let a = c .before .before .before .args in
-    let e = c .get-be .ensures ∙ ap (λ (l : List ℕ). num (take 8 l)) (c .before .part .ensures) ∙ num-field (a .at) (a .w) (a .s .now) (c .before .before .before .pre) in
-    record { is = e; fits = rw e (num-field-lt (a .at) (a .w) (a .s .now) (λ i. c .before .before .shared-slice-known .given i .fits)) }
+    let at-shared-slice-known = c .before .before in
+    let start = at-shared-slice-known .before in
+    let a = start .args in
+    let e = c .get-be .ensures ∙ ap (λ (l : List ℕ). num (take 8 l)) (c .before .part .ensures) ∙ num-field (a .at) (a .w) (a .s .now) (start .pre) in
+    record { is = e; fits = rw e (num-field-lt (a .at) (a .w) (a .s .now) (λ i. at-shared-slice-known .shared-slice-known .given i .fits)) }
 
 pub number-spec : {M : Type 1} → statement M
 number-spec = tie.close (tie.spec part-requires get-be-requires returns)

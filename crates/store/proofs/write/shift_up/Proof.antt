@@ -10,7 +10,8 @@ use Rattle.store.proofs.write.shift_up.Statement.{statement}
 use Rattle.store.proofs.write.shift_up.Tie as tie
 
 abbrev Inv-loop : tie.InvT-loop
-Inv-loop part₀ i₀ part i = (part ≡ take (i + slotWidth) part₀ ++ drop i (take (length part₀ - slotWidth) part₀)) × (i ≤ length part₀ - slotWidth) × (length part ≡ length part₀)
+Inv-loop part₀ i₀ part i =
+    (part ≡ take (i + slotWidth) part₀ ++ drop i (take (length part₀ - slotWidth) part₀)) × (i ≤ length part₀ - slotWidth) × (length part ≡ length part₀)
 
 abbrev μ-loop : tie.MeasureT-loop
 μ-loop part₀ i₀ part i = i
@@ -40,9 +41,15 @@ loop-less c = search needs
 
 loop-again : tie.Need-loop-again Inv-loop μ-loop
 loop-again c =
-    let l = c .before .before .loop in
-    let s = c .before .before .before .args .part .now in
-    (shift-step s slotWidth (length s - slotWidth) (omega arith) (l .part) (l .i) (omega arith) (l .inv .1) (l .inv .0), omega arith, simp length-set (l .inv .2))
+    let head = c .before .before in
+    let start = head .before in
+    let l = head .loop in
+    let s = start .args .part .now in (
+      shift-step s slotWidth (length s - slotWidth) (omega arith) (l .part) (l .i) (omega arith) (l .inv .1) (l .inv .0),
+      omega arith,
+      simp length-set
+          (l .inv .2),
+    )
 
 same-length : tie.Need-same-length Inv-loop μ-loop
 same-length c = c .before .loop .inv .2

@@ -41,7 +41,8 @@ returns c =
     let a = start .args in
     let e = entryOf (a .key .now) (a .value .now) (a .flag) (a .stamp) in
     let k : slotStart (a .at) + slotWidth - slotStart (a .at) ≡ slotWidth = omega arith in
-    replace-done (a .at) (a .store .now) (start .pre) _ _ (slotBytes e) k (put .put-slot .ensures ∙ slot-with e _ (slot-long (a .at) (a .store .now) (start .pre) _ k))
+    replace-done (a .at) (a .store .now) (start .pre) _ _ (slotBytes e) k
+    (put .put-slot .ensures ∙ slot-with e _ (slot-long (a .at) (a .store .now) (start .pre) _ k))
 
 pub write-entry-spec : {M : Type 1} → statement M
 write-entry-spec =

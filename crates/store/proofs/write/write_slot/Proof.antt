@@ -41,7 +41,8 @@ returns c =
     let fits = start .pre .0 in
     let k : slotStart (a .at) + slotWidth - slotStart (a .at) ≡ slotWidth = omega arith in
     replace-done (a .at) (a .store .now) fits _ _ (a .slot .now) k
-    (put .put-padded .ensures ∙ ap (λ (n : ℕ). padded n (a .slot .now)) (slot-long (a .at) (a .store .now) fits _ k ∙ sym (start .pre .1)) ∙ padded-exact (a .slot .now))
+    (put .put-padded .ensures ∙ ap (λ (n : ℕ). padded n (a .slot .now)) (slot-long (a .at) (a .store .now) fits _ k ∙ sym (start .pre .1))
+    ∙ padded-exact (a .slot .now))
 
 pub write-slot-spec : {M : Type 1} → statement M
 write-slot-spec =
