@@ -90,7 +90,9 @@ impl Edit {
     /// The function that it names, if it changes that function's body and nothing else.
     pub fn place<'a>(&self, bodies: &'a [Body]) -> Option<&'a Body> {
         let own = bodies.iter().find(|body| body.path == self.expect)?;
-        let is_inside = |pair: &Pair| pair.file == own.file && own.text.contains(&pair.old);
+        // a body's text starts behind its first line's indentation
+        let is_inside =
+            |pair: &Pair| pair.file == own.file && own.text.contains(pair.old.trim_start());
         self.pairs.iter().all(is_inside).then_some(own)
     }
 }

@@ -11,9 +11,9 @@ mutants run [--crate NAME].. [--code N] [--definitions N] [--seed N] [--jobs N] 
     --alone: one mutant a check, also where those of several functions could share one
 mutants list [--crate NAME].. ROOT
     prints every mutant that could be tried, and checks none
-mutants edits [--crate NAME].. [--edit LABEL].. [--jobs N] ROOT
+mutants edits [--crate NAME].. [--edit LABEL].. [--once] [--jobs N] ROOT
     tries each crates/*/must-fail/quick/*.edit; fails if what it names is not refused for a fact of its own,
-    or if a public function has fewer than two
+    or if a public function has fewer than two; --once: the first for each function and theorem
 mutants count [--crate NAME].. ROOT
     says which public functions have fewer than two wrong answers of their own, and checks nothing";
 
@@ -27,6 +27,7 @@ pub struct Options {
     pub seed: u64,
     pub jobs: usize,
     pub alone: bool,
+    pub once: bool,
 }
 
 impl Options {
@@ -41,11 +42,16 @@ impl Options {
             seed: 1,
             jobs: cores,
             alone: false,
+            once: false,
         };
         let mut args = args.iter();
         while let Some(arg) = args.next() {
             if !arg.starts_with("--") {
                 found.root = arg.clone();
+                continue;
+            }
+            if arg == "--once" {
+                found.once = true;
                 continue;
             }
             if arg == "--alone" {

@@ -8,6 +8,7 @@ use crate::options::Options;
 use crate::pool::{Job, Pool};
 use crate::progress::Progress;
 use crate::repository::Repository;
+use std::collections::BTreeSet;
 
 /// Edits of one crate that share a check, with what is asked of it.
 struct Group<'a> {
@@ -39,12 +40,13 @@ impl Crate {
         })
     }
 
-    fn groups(&self, wanted: &[String]) -> Vec<Group<'_>> {
-        let chosen = self
-            .edits
-            .iter()
-            .filter(|e| wanted.is_empty() || wanted.contains(&e.label));
-        let chosen: Vec<&Edit> = chosen.collect();
+    fn groups(&self, options: &Options) -> Vec<Group<'_>> {
+        let mut named = BTreeSet::new();
+        let mut is_chosen = |edit: &&Edit| {
+            let wanted = options.edits.is_empty() || options.edits.contains(&edit.label);
+            wanted && (!options.once || named.insert(edit.expect.clone()))
+        };
+        let chosen: Vec<&Edit> = self.edits.iter().filter(|edit| is_chosen(edit)).collect();
         let bodies = bodies(&self.files);
         let places: Vec<_> = chosen.iter().map(|edit| edit.place(&bodies)).collect();
         let groups = grouped(&places, &bodies).into_iter();
@@ -66,8 +68,16 @@ fn crates(options: &Options) -> Result<(Repository, Vec<Crate>), String> {
     Ok((repository, crates?))
 }
 
-/// Whether each public function has two wrong answers of its own.
+/// Counts the wrong answers, and says whether each public function has two of its own.
 pub fn count(options: &Options) -> Result<bool, String> {
+    let (_, crates) = crates(options)?;
+    let groups: Vec<Group<'_>> = crates.iter().flat_map(|one| one.groups(options)).collect();
+    println!("{}", counted(&groups));
+    is_enough(options)
+}
+
+/// Whether each public function has two wrong answers of its own.
+fn is_enough(options: &Options) -> Result<bool, String> {
     let (repository, crates) = crates(options)?;
     let mut good = true;
     for one in &crates {
@@ -76,16 +86,18 @@ pub fn count(options: &Options) -> Result<bool, String> {
     Ok(good)
 }
 
+fn counted(groups: &[Group<'_>]) -> String {
+    let edits: usize = groups.iter().map(|group| group.edits.len()).sum();
+    format!("{edits} wrong answers in {} checks", groups.len())
+}
+
 /// Tries the wrong answers, and counts them if none was asked for by name.
 pub fn run(options: &Options) -> Result<bool, String> {
-    let good = !options.edits.is_empty() || count(options)?;
+    let good = !options.edits.is_empty() || is_enough(options)?;
     let (repository, crates) = crates(options)?;
-    let groups: Vec<Group<'_>> = crates
-        .iter()
-        .flat_map(|one| one.groups(&options.edits))
-        .collect();
+    let groups: Vec<Group<'_>> = crates.iter().flat_map(|one| one.groups(options)).collect();
     let count: usize = groups.iter().map(|group| group.edits.len()).sum();
-    println!("{count} wrong answers in {} checks", groups.len());
+    println!("{}", counted(&groups));
     let used = crates
         .iter()
         .filter(|one| groups.iter().any(|g| g.of.name == one.name));
