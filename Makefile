@@ -26,7 +26,7 @@ test:
 	@$(MAKE) --no-print-directory proved
 	@$(MAKE) --no-print-directory -j2 reference library
 	@$(MAKE) --no-print-directory lint expected tails replayed compared
-	@$(MAKE) --no-print-directory wrong-answers
+	@$(MAKE) --no-print-directory wrong-answers ONCE=--once
 	@rt fmt --check
 	@rt ci
 
@@ -116,9 +116,10 @@ N = 150
 mutants:
 	cd rust && $(CARGO) run --release --offline --quiet -p snowpulley-mutants -- run $(addprefix --crate ,$(CRATE)) --code $(N) --seed $(SEED) ..
 
-# Each wrong answer below crates/*/must-fail/quick, tried in seconds: make wrong-answers CRATE=store (no CRATE: every crate)
+# Each wrong answer below crates/*/must-fail/quick: make wrong-answers CRATE=store (no CRATE: every crate; ONCE=--once: one for each name)
+ONCE =
 wrong-answers:
-	cd rust && $(CARGO) run --release --offline --quiet -p snowpulley-mutants -- edits $(addprefix --crate ,$(CRATE)) ..
+	cd rust && $(CARGO) run --release --offline --quiet -p snowpulley-mutants -- edits $(addprefix --crate ,$(CRATE)) $(ONCE) ..
 
 # What the proved programs are held to is what the second program writes.
 expected: tools

@@ -16,6 +16,20 @@ struct Group<'a> {
     of: &'a Crate,
 }
 
+impl Group<'_> {
+    /// How many edits change a text that does not stand just once in its file; each is told.
+    fn stale(&self) -> usize {
+        let mut count = 0;
+        for edit in &self.edits {
+            if let Err(e) = edit.apply(&mut self.of.files.clone()) {
+                println!("NOT AS EXPECTED  {}/{}: {e}", edit.name, edit.label);
+                count += 1;
+            }
+        }
+        count
+    }
+}
+
 /// A crate's files, with the laws of its proofs.
 struct Crate {
     name: String,
@@ -98,13 +112,14 @@ pub fn run(options: &Options) -> Result<bool, String> {
     let groups: Vec<Group<'_>> = crates.iter().flat_map(|one| one.groups(options)).collect();
     let count: usize = groups.iter().map(|group| group.edits.len()).sum();
     println!("{}", counted(&groups));
+    let stale = groups.iter().map(Group::stale).sum::<usize>();
     let used = crates
         .iter()
         .filter(|one| groups.iter().any(|g| g.of.name == one.name));
     let used: Vec<String> = used.map(|one| one.name.clone()).collect();
     let mut pool = Pool::new(&repository, &used, options.jobs)?;
     let (mut failures, alone) = try_edits(&mut pool, groups)?;
-    failures += try_edits(&mut pool, alone)?.0;
+    failures += try_edits(&mut pool, alone)?.0 + stale;
     println!(
         "wrong answers: {} refused, {failures} not",
         count - failures
@@ -121,8 +136,11 @@ fn try_edits<'a>(
     for group in &groups {
         let mut changed = group.of.files.clone();
         for edit in &group.edits {
-            edit.apply(&mut changed)
-                .map_err(|e| format!("{}/{}: {e}", edit.name, edit.label))?;
+            // where two edits of a group do not fit together, the second is tried alone later
+            let mut more = changed.clone();
+            if edit.apply(&mut more).is_ok() {
+                changed = more;
+            }
         }
         changed.retain(|file, text| group.of.files[file] != *text);
         jobs.push(Job {
@@ -136,10 +154,11 @@ fn try_edits<'a>(
     for (group, log) in groups.into_iter().zip(logs) {
         let log = log.map_err(|e| format!("{}: {e}", group.of.name))?;
         let shared = group.edits.len() > 1;
+        let applies = |edit: &Edit| edit.apply(&mut group.of.files.clone()).is_ok();
         for edit in group
             .edits
             .into_iter()
-            .filter(|edit| !edit.is_met(&log, &group.of.laws))
+            .filter(|edit| applies(edit) && !edit.is_met(&log, &group.of.laws))
         {
             if shared {
                 left.push(Group {
