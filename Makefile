@@ -3,7 +3,9 @@ SHELL = /bin/bash
 CARGO = cargo
 TOOLS = rust/target/release
 SAMPLE = target/sample
-LIBRARY = target/staticlib/libcapi.a
+LIBRARY = target/libsnowpulley.a
+# The crates with functions for C: an archive of each, all in one library.
+PARTS = capi capi_cluster
 # The Rust crates with tests that link the proved library.
 LINKED = -p snowpulley-sys -p snowpulley -p snowpulley-cli -p snowpulley-differential -p snowpulley-bench
 .PHONY: run replay test proved lint reference tools tool expected tails replayed library differential compared fuzz bench performance sizes mutants wrong-answers fmt
@@ -74,8 +76,9 @@ replayed: target/bin/replay
 # The proved library for C and Rust, made again where something that it may depend on has changed.
 library: $(LIBRARY)
 $(LIBRARY): crates.txt $(shell find crates -name '*.rt' -o -name '*.antt')
-	@echo "Proving the library, some minutes from nothing and one for its last crate, capi:"
-	@$(call told,library.log,rt staticlib capi)
+	@echo "Proving the library, some minutes from nothing and one for its last crates, $(PARTS):"
+	@$(call told,library.log,for part in $(PARTS); do rt staticlib $$part || exit 1; done)
+	@printf '%s\n' 'create $@' $(PARTS:%='addlib target/staticlib/lib%.a') save end | ar -M
 
 # The C example, the wrapper, the tool, and every family of calls against the second program, with fixed seeds.
 differential: library

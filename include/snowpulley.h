@@ -1,23 +1,25 @@
 /* Snowpulley: a settings store in which every function is proved to meet its contract.
  *
- * Link with libcapi.a. It is for x86-64 Linux, the one target of the toolchain, and needs memcpy,
- * memmove and memset. It has no heap and no data of its own that changes. A call takes up to
- * 19 KiB of stack: a checksum makes its table of 16 KiB there, so every call that takes a checksum
- * takes that much. The calls of the clock and of the peer table, sp_owners, sp_fmix32,
- * sp_ring_is_sound and sp_store_create take less than 2 KiB. This is measured, not proved
- * (docs/PERFORMANCE.md). A port to another processor rests on a back end of the toolchain for it.
+ * Link with libsnowpulley.a. It is for x86-64 Linux, the one target of the toolchain, and needs
+ * memcpy, memmove and memset. It has no heap and no data of its own that changes. A call takes up
+ * to 18 KiB of stack: a checksum makes its table of 16 KiB there, so every call that takes a
+ * checksum takes 12 KiB or more. The calls of the clock and of the peer table, sp_owners,
+ * sp_fmix32, sp_ring_is_sound and sp_store_create take less than 2 KiB. This is measured, not
+ * proved (docs/PERFORMANCE.md). A port to another processor rests on a back end of the toolchain
+ * for it.
  *
  * Every function may be given any numbers and any bytes: it ends with an answer or a numbered
  * refusal, and a refusal changes nothing that was lent, except that sp_handle writes an ERR frame
  * for every refusal but SP_NO_ROOM and SP_BAD_ARGUMENT.
  *
  * A pointer and the length after it are a slice: the pointer is not NULL, also where the length
- * is 0, and points to as many elements as the length says. A slice that is written does not
- * overlap another one of the same call. Nothing is kept from one call to the next.
+ * is 0, and points to as many elements as the length says (bytes of uint8_t, words of uint32_t or
+ * uint64_t). A slice that is written does not overlap another one of the same call. An output is
+ * written at its front, and its later elements stay. Nothing is kept from one call to the next;
+ * calls on one store, clock or table must not overlap in time.
  *
- * An sp_result holds a refusal in its upper 16 bits (0: none) and a count or an answer in its
- * lower 16 bits (0 where none is named). Where a refusal is given, the lower half is 0, except
- * that sp_handle's is the length of the ERR frame that it wrote.
+ * A time is in milliseconds, from 0 to SP_TIME_END - 1, and counts from a moment that is the same
+ * for all modules. `now` is the caller's own reading of the time; it may stand still or go back.
  */
 #ifndef SNOWPULLEY_H
 #define SNOWPULLEY_H
@@ -29,28 +31,77 @@
 extern "C" {
 #endif
 
+/* ---- Results --------------------------------------------------------------------------- */
+
+/* A refusal in the upper 16 bits (0: none) and an answer in the lower 16 bits: a length or a
+ * number as the function says, and 0 where it says none. A refusal has the answer 0, except that
+ * sp_handle's is the length of the ERR frame that it wrote. */
 typedef uint32_t sp_result;
+#define SP_IS_REFUSED(r) (SP_REFUSAL(r) != 0)
 #define SP_REFUSAL(r) ((r) >> 16)
 #define SP_ANSWER(r) ((r) & 0xFFFFu)
 
 /* Refusals. */
-#define SP_BAD_KEY 1
-#define SP_VALUE_TOO_LARGE 2
-#define SP_BAD_FRAME 3
-#define SP_NO_ROOM 4
-#define SP_BAD_STORE 5
-#define SP_STORE_FULL 6
-#define SP_OVERTAKEN 7
-#define SP_CLOCK_SPENT 8
-#define SP_BAD_TIME 9
-#define SP_TOO_FEW 10
-#define SP_UNKNOWN_PEER 11
-#define SP_STALE 12
-#define SP_TABLE_FULL 13
-#define SP_PEER_KNOWN 14
-#define SP_SELF 15
-#define SP_BAD_RING 16
-#define SP_BAD_ARGUMENT 17
+#define SP_BAD_KEY 1         /* a key that is not acceptable: see SP_KEY_MAX */
+#define SP_VALUE_TOO_LARGE 2 /* a value of more than SP_VALUE_MAX bytes */
+#define SP_BAD_FRAME 3       /* bytes that are not exactly one frame, or a reply as a request */
+#define SP_NO_ROOM 4         /* an output that is too short, or a new store's of a wrong length */
+#define SP_BAD_STORE 5       /* a store that is not sound: damaged, or never created */
+#define SP_STORE_FULL 6      /* more keys would be held than there are slots */
+#define SP_OVERTAKEN 7       /* a PUT or DEL whose stamp is not above the one held for its key */
+#define SP_CLOCK_SPENT 8     /* a logical count that has to rise stands at 65535 */
+#define SP_BAD_TIME 9        /* a time of SP_TIME_END or more */
+#define SP_TOO_FEW 10        /* fewer admitted peers have a place than owners are asked for */
+#define SP_UNKNOWN_PEER 11   /* an id that has no row */
+#define SP_STALE 12          /* an incarnation below the held one */
+#define SP_TABLE_FULL 13     /* an eleventh row */
+#define SP_PEER_KNOWN 14     /* an id to be added that has a row */
+#define SP_SELF 15           /* an event about the own id, other than adding it */
+#define SP_BAD_RING 16       /* a ring that is not sound */
+#define SP_BAD_ARGUMENT 17   /* a number out of its range, an id twice, a tombstone with a value,
+                              * or words that are no clock or no sound table */
+
+/* The name of a refusal's number, as "BAD_KEY": for SP_REFUSAL(r), or the number of an ERR frame.
+ * "none" for 0, and "unknown" for a number that this header does not have. */
+static inline const char *sp_refusal_name(uint32_t number) {
+    switch (number) {
+    case 0: return "none";
+    case SP_BAD_KEY: return "BAD_KEY";
+    case SP_VALUE_TOO_LARGE: return "VALUE_TOO_LARGE";
+    case SP_BAD_FRAME: return "BAD_FRAME";
+    case SP_NO_ROOM: return "NO_ROOM";
+    case SP_BAD_STORE: return "BAD_STORE";
+    case SP_STORE_FULL: return "STORE_FULL";
+    case SP_OVERTAKEN: return "OVERTAKEN";
+    case SP_CLOCK_SPENT: return "CLOCK_SPENT";
+    case SP_BAD_TIME: return "BAD_TIME";
+    case SP_TOO_FEW: return "TOO_FEW";
+    case SP_UNKNOWN_PEER: return "UNKNOWN_PEER";
+    case SP_STALE: return "STALE";
+    case SP_TABLE_FULL: return "TABLE_FULL";
+    case SP_PEER_KNOWN: return "PEER_KNOWN";
+    case SP_SELF: return "SELF";
+    case SP_BAD_RING: return "BAD_RING";
+    case SP_BAD_ARGUMENT: return "BAD_ARGUMENT";
+    default: return "unknown";
+    }
+}
+
+/* Below, the refusals of a function stand in the order of its checks. The first that applies is
+ * given, and a function gives none that it does not list. */
+
+/* ---- Limits ---------------------------------------------------------------------------- */
+
+/* A key is any 1 to 64 bytes that do not begin with _sys:, _ring:, _hint: or _gossip:. */
+#define SP_KEY_MAX 64     /* bytes */
+#define SP_VALUE_MAX 512  /* bytes; a value may be empty */
+#define SP_FRAME_MAX 600  /* bytes */
+#define SP_SLOTS_MAX 100  /* slots of a store, at least 1 */
+#define SP_PEERS_MAX 10   /* rows of a peer table, and ids of a ring */
+#define SP_VNODES_MAX 64  /* vnodes of each id of a ring, at least 1 */
+#define SP_RING_MAX 640   /* places of a ring: words */
+#define SP_OWNERS_MAX 3   /* owners of a position, at least 1 */
+#define SP_TIME_END UINT64_C(281474976710656) /* 2^48: the first time that is out of range */
 
 /* ---- Checksums ------------------------------------------------------------------------- */
 
@@ -62,51 +113,98 @@ uint32_t sp_fmix32(uint32_t h);
 
 /* ---- The clock ------------------------------------------------------------------------- */
 
-/* A clock is four words: phys, logical (0 to 65535), node (0 to 255), skew count (32 bits).
- * Any other number of words, or a word out of its range, is SP_BAD_ARGUMENT, ahead of the
- * clock's own checks. */
+/* A hybrid logical clock is four words. Its phys, logical and node are a stamp; stamps go by
+ * phys, then logical, then node. Words are no clock if there are more or fewer than four, or if
+ * logical, node or the skew count is out of its range. A module keeps its clock over a restart:
+ * one that starts anew may give a stamp twice. */
 #define SP_CLOCK_WORDS 4
+#define SP_CLOCK_PHYS 0       /* a time, milliseconds */
+#define SP_CLOCK_LOGICAL 1    /* 0 to 65535, counts steps within one phys */
+#define SP_CLOCK_NODE 2       /* the module's id, 0 to 255 */
+#define SP_CLOCK_SKEW_COUNT 3 /* received stamps that were far ahead; stops at 2^32 - 1 */
 
-/* A new clock of a node: phys 0, logical 0, no skew events. SP_NO_ROOM for fewer than four
- * words; words past the fourth stay. */
+/* A new clock of a module: phys 0, logical 0, skew count 0.
+ *   SP_NO_ROOM          fewer than SP_CLOCK_WORDS words */
 sp_result sp_clock_fresh(uint8_t node, uint64_t *clock, size_t clock_len);
 
-/* Moves the clock on for a local write at the reading `now`: its stamp is then the clock's
- * phys, logical and node. SP_BAD_TIME, then SP_CLOCK_SPENT. */
+/* Moves the clock on for a local write at the reading `now`; the clock's stamp is then the
+ * write's. sp_handle does this itself.
+ *   SP_BAD_ARGUMENT     the words are no clock
+ *   SP_BAD_TIME         `now` or the clock's phys is out of range
+ *   SP_CLOCK_SPENT      `now` is not above the clock's phys, and its logical is 65535 */
 sp_result sp_clock_send(uint64_t now, uint64_t *clock, size_t clock_len);
 
-/* Moves the clock on for a received stamp (phys, logical) at the reading `now`. SP_BAD_TIME,
- * then SP_CLOCK_SPENT. */
+/* Moves the clock on for a received stamp's phys and logical at the reading `now`. A phys that is
+ * more than 2000 ms above `now` is far ahead: it raises the skew count, and the clock goes to the
+ * later of its own phys and `now`, and its logical rises. Any other phys above the clock's own is
+ * taken over, with a logical one above the received one. Else the clock's own logical rises.
+ *   SP_BAD_ARGUMENT     the words are no clock
+ *   SP_BAD_TIME         `now`, `phys` or the clock's phys is out of range
+ *   SP_CLOCK_SPENT      the count that has to rise is 65535: the received logical where its phys
+ *                       is taken over, else the clock's own */
 sp_result sp_clock_receive(uint64_t phys, uint16_t logical, uint64_t now, uint64_t *clock,
                            size_t clock_len);
 
 /* ---- The peer table -------------------------------------------------------------------- */
 
-/* A peer table is 61 words: the number of rows, then ten rows of six words each: id, address
- * (the four bytes as one big-endian number), port, state (0 ALIVE, 1 SUSPECT, 2 DOWN),
- * incarnation, last seen. Any other number of words, or a word that its field cannot hold (8,
- * 32, 16, 8, 32 and 64 bits; the number of rows 8 bits), is SP_BAD_ARGUMENT, after
- * SP_BAD_TIME; this holds of the rows past the last one too, which are kept as they are. */
+/* A peer table is 61 words: the number of rows, then ten rows of six words, the own one first.
+ * Words are a sound table if there are exactly 61 and each fits its bits; if there are 1 to 10
+ * rows, no two with the same id, each with one of the three states and a time in range; and if
+ * the own row is ALIVE. Rows past the last one are kept as they are. */
 #define SP_PEERS_WORDS 61
+#define SP_PEERS_COUNT 0     /* the number of rows: 8 bits */
+#define SP_ROW_WORDS 6
+#define SP_ROW_ID 0          /* table[SP_ROW(i) + SP_ROW_ID]: 8 bits */
+#define SP_ROW_ADDRESS 1     /* four bytes as one big-endian number: 32 bits */
+#define SP_ROW_PORT 2        /* 16 bits */
+#define SP_ROW_STATE 3       /* one of the states below: 8 bits */
+#define SP_ROW_INCARNATION 4 /* 32 bits */
+#define SP_ROW_SEEN 5        /* when last seen, a time in milliseconds: 64 bits */
+#define SP_ROW(i) (1 + SP_ROW_WORDS * (i)) /* the first word of row i, counted from 0 */
 
-/* A table with the own row alone. SP_BAD_TIME, then SP_NO_ROOM for fewer than 61 words; words
- * past the 61st stay. The nine other rows are zero. */
+/* States; a greater one is worse. */
+#define SP_STATE_ALIVE 0
+#define SP_STATE_SUSPECT 1
+#define SP_STATE_DOWN 2
+
+/* A table with the own row alone: ALIVE, last seen `now`; the nine other rows are zero.
+ *   SP_BAD_TIME         `now` is out of range
+ *   SP_NO_ROOM          fewer than SP_PEERS_WORDS words */
 sp_result sp_peers_fresh(uint8_t id, uint32_t address, uint16_t port, uint32_t incarnation,
                          uint64_t now, uint64_t *table, size_t table_len);
 
-/* Adds a peer. SP_BAD_TIME, SP_BAD_ARGUMENT, SP_PEER_KNOWN, SP_TABLE_FULL. */
+/* Adds a peer, after the others: ALIVE, last seen `now`.
+ *   SP_BAD_TIME         `now` is out of range
+ *   SP_BAD_ARGUMENT     the words are no sound table
+ *   SP_PEER_KNOWN       the id has a row, the own one included
+ *   SP_TABLE_FULL       there are ten rows */
 sp_result sp_peers_add(uint8_t id, uint32_t address, uint16_t port, uint32_t incarnation,
                        uint64_t now, uint64_t *table, size_t table_len);
 
-/* A peer was heard directly. SP_BAD_TIME, SP_BAD_ARGUMENT, SP_SELF, SP_UNKNOWN_PEER, SP_STALE. */
+/* A peer was heard directly: it becomes ALIVE with that incarnation, and last seen moves up to
+ * `now`.
+ *   SP_BAD_TIME         `now` is out of range
+ *   SP_BAD_ARGUMENT     the words are no sound table
+ *   SP_SELF             the id is the own one
+ *   SP_UNKNOWN_PEER     the id has no row
+ *   SP_STALE            the incarnation is below the held one */
 sp_result sp_peers_heard(uint8_t id, uint32_t incarnation, uint64_t now, uint64_t *table,
                          size_t table_len);
 
-/* Another peer reported a peer's state. The same refusals. */
-sp_result sp_peers_reported(uint8_t id, uint8_t state, uint32_t incarnation, uint64_t now,
+/* Another peer told a peer's state. An incarnation above the held one sets both, and ALIVE then
+ * moves last seen up to `now`; with the held one the worse of the two states stays.
+ *   SP_BAD_TIME         `now` is out of range
+ *   SP_BAD_ARGUMENT     the state is none of the three, or the words are no sound table
+ *   SP_SELF             the id is the own one
+ *   SP_UNKNOWN_PEER     the id has no row
+ *   SP_STALE            the incarnation is below the held one */
+sp_result sp_peers_reported(uint8_t id, uint32_t state, uint32_t incarnation, uint64_t now,
                             uint64_t *table, size_t table_len);
 
-/* Time has passed. SP_BAD_TIME, SP_BAD_ARGUMENT. */
+/* Time has passed: a peer last seen 5000 ms ago or more becomes SUSPECT, and 15000 ms ago or more
+ * DOWN. The own row stays, and no state gets better.
+ *   SP_BAD_TIME         `now` is out of range
+ *   SP_BAD_ARGUMENT     the words are no sound table */
 sp_result sp_peers_tick(uint64_t now, uint64_t *table, size_t table_len);
 
 /* 1 if the words are a sound table, else 0. */
@@ -114,104 +212,185 @@ uint32_t sp_peers_is_sound(const uint64_t *table, size_t table_len);
 
 /* ---- The ring -------------------------------------------------------------------------- */
 
-/* The token of a node's vnode. */
+/* A ring is its places in ascending order, a word each: 65536 * token + 256 * node + vnode. It is
+ * sound if they are no more than SP_RING_MAX, ascend strictly, and have tokens of 32 bits and
+ * vnodes below SP_VNODES_MAX. Tokens, positions and salts are any 32 bits; a cluster has one
+ * salt. */
+#define SP_RING_TOKEN(place) ((uint32_t)((place) >> 16))
+#define SP_RING_NODE(place) ((uint8_t)((place) >> 8))
+#define SP_RING_VNODE(place) ((uint8_t)(place))
+
+/* The token of a module's vnode. */
 uint32_t sp_token(uint8_t node, uint8_t vnode, uint32_t salt);
 
-/* Writes a key's ring position to position[0]. SP_BAD_KEY, then SP_NO_ROOM for no word. */
+/* Writes a key's position on the ring to position[0].
+ *   SP_BAD_KEY          the key is not acceptable
+ *   SP_NO_ROOM          no word */
 sp_result sp_key_position(const uint8_t *key, size_t key_len, uint32_t salt, uint32_t *position,
                           size_t position_len);
 
-/* Fills the front of `ring` with the places of up to ten distinct ids with `vnodes` (1 to 64)
- * each, ascending; the answer is their number. Later words stay. SP_BAD_ARGUMENT, SP_NO_ROOM. */
-sp_result sp_ring_build(const uint8_t *ids, size_t ids_len, uint8_t vnodes, uint32_t salt,
+/* Writes the ring of some ids with `vnodes` places each; the answer is the number of places.
+ *   SP_BAD_ARGUMENT     more than ten ids, one of them twice, or `vnodes` not from 1 to 64
+ *   SP_NO_ROOM          fewer than ids_len * vnodes words */
+sp_result sp_ring_build(const uint8_t *ids, size_t ids_len, uint32_t vnodes, uint32_t salt,
                         uint64_t *ring, size_t ring_len);
 
 /* 1 if the words are a sound ring, else 0. */
 uint32_t sp_ring_is_sound(const uint64_t *ring, size_t ring_len);
 
-/* Who is admitted to an owner list; any other number is SP_BAD_ARGUMENT. */
-#define SP_HOME 0
-#define SP_STANDING 1
+/* Which peers may be owners. */
+#define SP_HOME 0     /* those that have a row */
+#define SP_STANDING 1 /* those that have a row and are not DOWN */
 
-/* Writes the `count` (1 to 3) owners of a position to the front of `out`. Later bytes stay.
- * SP_BAD_ARGUMENT, SP_BAD_RING, SP_TOO_FEW, SP_NO_ROOM. */
+/* Writes the ids of the `count` owners of a position: the first admitted peers from the place at
+ * or above the position on, and round the ring, each once.
+ *   SP_BAD_ARGUMENT     `admission` is neither of the two, `count` is not from 1 to 3, or the words
+ *                       of `table` are no sound table
+ *   SP_BAD_RING         the ring is not sound
+ *   SP_TOO_FEW          fewer than `count` admitted peers have a place
+ *   SP_NO_ROOM          fewer than `count` bytes in `out` */
 sp_result sp_owners(const uint64_t *ring, size_t ring_len, const uint64_t *table,
-                    size_t table_len, uint32_t position, uint8_t admission, uint8_t count,
+                    size_t table_len, uint32_t position, uint32_t admission, uint32_t count,
                     uint8_t *out, size_t out_len);
 
 /* ---- Frames ---------------------------------------------------------------------------- */
 
-#define SP_FRAME_MAX 600
+/* Types of requests and of replies, with the fields that they use. */
+#define SP_TYPE_PUT 1       /* key, value */
+#define SP_TYPE_GET 2       /* key */
+#define SP_TYPE_DEL 3       /* key */
+#define SP_TYPE_REPL 4      /* key, value, flag, phys, logical, node */
+#define SP_TYPE_OK 16       /* none */
+#define SP_TYPE_VALUE 17    /* value */
+#define SP_TYPE_NOTFOUND 18 /* none */
+#define SP_TYPE_ERR 20      /* number */
 
-/* What a frame says, in ten words: type; where the key stands in the frame and its length;
- * where the value stands and its length; flag; phys; logical; node; ERR number. A word that
- * the message has no use for is 0; an empty value has a place, and the length 0. */
+/* What a frame says, or an entry of a store, in ten words. A field that is not used is 0; an
+ * empty value has a place, and the length 0. */
 #define SP_FIELDS 10
+#define SP_FIELD_TYPE 0
+#define SP_FIELD_KEY_AT 1    /* where the key begins in the frame or the store, bytes */
+#define SP_FIELD_KEY_LEN 2   /* bytes */
+#define SP_FIELD_VALUE_AT 3  /* where the value begins, bytes */
+#define SP_FIELD_VALUE_LEN 4 /* bytes */
+#define SP_FIELD_FLAG 5
+#define SP_FIELD_PHYS 6      /* a time, milliseconds */
+#define SP_FIELD_LOGICAL 7   /* 0 to 65535 */
+#define SP_FIELD_NODE 8      /* 0 to 255 */
+#define SP_FIELD_NUMBER 9    /* a refusal's number, 1 to 255 */
 
-/* Reads exactly one frame. SP_BAD_FRAME, SP_BAD_KEY, SP_VALUE_TOO_LARGE, then SP_NO_ROOM for
- * fewer than ten words. Later words stay. */
+/* Flags. A tombstone says that its key was deleted, and has no value. */
+#define SP_FLAG_ACTIVE 0
+#define SP_FLAG_TOMBSTONE 1
+
+/* Reads the fields of a frame. A byte more than the frame, or one less, makes it no frame.
+ *   SP_BAD_FRAME        a length, the checksum, the type, the flags or the body is wrong
+ *   SP_BAD_KEY          the key is not acceptable
+ *   SP_VALUE_TOO_LARGE  the value has more than SP_VALUE_MAX bytes
+ *   SP_NO_ROOM          fewer than SP_FIELDS words */
 sp_result sp_frame_read(const uint8_t *frame, size_t frame_len, uint64_t *fields,
                         size_t fields_len);
 
-/* Each writer fills the front of `out` with a frame; the answer is the frame's length. Later
- * bytes stay. SP_BAD_TIME, SP_BAD_KEY, SP_VALUE_TOO_LARGE, SP_BAD_ARGUMENT, SP_NO_ROOM. */
+/* Each writer writes a frame of its type; the answer is the frame's length in bytes. It gives
+ * those of the refusals that are about its own arguments.
+ *   SP_BAD_TIME         `phys` is out of range
+ *   SP_BAD_KEY          the key is not acceptable
+ *   SP_VALUE_TOO_LARGE  the value has more than SP_VALUE_MAX bytes
+ *   SP_BAD_ARGUMENT     `flag` is neither of the two, a tombstone has a value, or `number` is not
+ *                       from 1 to 255
+ *   SP_NO_ROOM          `out` is shorter than the frame; SP_FRAME_MAX bytes are always enough */
 sp_result sp_write_put(const uint8_t *key, size_t key_len, const uint8_t *value,
                        size_t value_len, uint8_t *out, size_t out_len);
 sp_result sp_write_get(const uint8_t *key, size_t key_len, uint8_t *out, size_t out_len);
 sp_result sp_write_del(const uint8_t *key, size_t key_len, uint8_t *out, size_t out_len);
 sp_result sp_write_repl(const uint8_t *key, size_t key_len, const uint8_t *value,
-                        size_t value_len, uint8_t flag, uint64_t phys, uint16_t logical,
+                        size_t value_len, uint32_t flag, uint64_t phys, uint16_t logical,
                         uint8_t node, uint8_t *out, size_t out_len);
 sp_result sp_write_ok(uint8_t *out, size_t out_len);
 sp_result sp_write_value(const uint8_t *value, size_t value_len, uint8_t *out, size_t out_len);
 sp_result sp_write_not_found(uint8_t *out, size_t out_len);
-sp_result sp_write_err(uint8_t number, uint8_t *out, size_t out_len);
+sp_result sp_write_err(uint32_t number, uint8_t *out, size_t out_len);
 
 /* ---- The store ------------------------------------------------------------------------- */
 
-/* A store of C slots (1 to 100) is a buffer of exactly 16 + 596 * C bytes. */
+/* A store of 1 to 100 slots is a buffer of exactly so many bytes: 16, and 596 for each slot. It
+ * holds at most one entry of a key, the one with the greatest stamp, in the order of the keys.
+ * docs/FORMAT.md draws the bytes. */
 #define SP_STORE_BYTES(slots) (16 + 596 * (size_t)(slots))
 
-/* Makes the buffer a store that holds nothing. SP_BAD_ARGUMENT, SP_NO_ROOM. */
+/* Makes the buffer a store that holds nothing.
+ *   SP_BAD_ARGUMENT     `slots` is not from 1 to 100
+ *   SP_NO_ROOM          the buffer has not exactly SP_STORE_BYTES(slots) bytes */
 sp_result sp_store_create(uint8_t *store, size_t store_len, size_t slots);
 
 /* 1 if the buffer is a sound store, else 0. */
 uint32_t sp_store_is_sound(const uint8_t *store, size_t store_len);
 
 /* Answers of sp_store_lookup. */
-#define SP_VALUE 0
-#define SP_DELETED 1
-#define SP_NEVER 2
+#define SP_LOOKED_VALUE 0   /* the key has a value */
+#define SP_LOOKED_DELETED 1 /* a tombstone is held */
+#define SP_LOOKED_NEVER 2   /* nothing is held */
 
-/* What the store says of a key; place[0] and place[1] become where the value stands in the
- * store and its length (0 and 0 where there is none; an empty value has a place). Later words
- * stay. SP_BAD_STORE, SP_BAD_KEY, then SP_NO_ROOM for fewer than two words. */
+/* The words that it writes: 0 and 0 where there is no value; an empty value has a place. */
+#define SP_PLACE_WORDS 2
+#define SP_PLACE_AT 0  /* where the value begins in the store, bytes */
+#define SP_PLACE_LEN 1 /* bytes */
+
+/* What the store says of a key, and where its value stands.
+ *   SP_BAD_STORE        the store is not sound
+ *   SP_BAD_KEY          the key is not acceptable
+ *   SP_NO_ROOM          fewer than SP_PLACE_WORDS words */
 sp_result sp_store_lookup(const uint8_t *store, size_t store_len, const uint8_t *key,
                           size_t key_len, uint64_t *place, size_t place_len);
 
-/* Answers of sp_store_offer. */
-#define SP_STORED 0
-#define SP_REPLACED 1
-#define SP_KEPT 2
+/* Writes the fields of entry i, counted from 0 in the order of the keys, as those of a REPL; the
+ * places are in the store. To list a store, call it with 0, 1 .. until SP_BAD_ARGUMENT.
+ *   SP_BAD_STORE        the store is not sound
+ *   SP_BAD_ARGUMENT     the store holds i entries or fewer
+ *   SP_NO_ROOM          fewer than SP_FIELDS words */
+sp_result sp_store_entry(const uint8_t *store, size_t store_len, size_t i, uint64_t *fields,
+                         size_t fields_len);
 
-/* Offers an entry. SP_BAD_STORE, SP_BAD_TIME, SP_BAD_KEY, SP_VALUE_TOO_LARGE, SP_BAD_ARGUMENT,
- * SP_STORE_FULL. The flag is 0 for an active entry and 1 for a tombstone. */
+/* Answers of sp_store_offer. */
+#define SP_OFFER_STORED 0   /* its key was not held */
+#define SP_OFFER_REPLACED 1 /* the held stamp was below its own */
+#define SP_OFFER_KEPT 2     /* it was not: the store is as before */
+
+/* Offers an entry to the store; `phys`, `logical` and `node` are its stamp.
+ *   SP_BAD_STORE        the store is not sound
+ *   SP_BAD_TIME         `phys` is out of range
+ *   SP_BAD_KEY          the key is not acceptable
+ *   SP_VALUE_TOO_LARGE  the value has more than SP_VALUE_MAX bytes
+ *   SP_BAD_ARGUMENT     `flag` is neither of the two, or a tombstone has a value
+ *   SP_STORE_FULL       the key is not held, and no slot is free */
 sp_result sp_store_offer(uint8_t *store, size_t store_len, const uint8_t *key, size_t key_len,
-                         const uint8_t *value, size_t value_len, uint8_t flag, uint64_t phys,
+                         const uint8_t *value, size_t value_len, uint32_t flag, uint64_t phys,
                          uint16_t logical, uint8_t node);
 
-/* Offers each of the giver's entries to the receiver, all or none. SP_BAD_STORE,
- * SP_STORE_FULL. */
+/* Offers each entry of the giver to the receiver, all or none. The two may have different numbers
+ * of slots.
+ *   SP_BAD_STORE        one of the two is not sound
+ *   SP_STORE_FULL       the keys of both together are more than the receiver has slots */
 sp_result sp_store_merge(uint8_t *receiver, size_t receiver_len, const uint8_t *giver,
                          size_t giver_len);
 
 /* ---- The request handler --------------------------------------------------------------- */
 
-/* Answers one request frame; the answer is the reply's length. The clock's words are checked
- * first (SP_BAD_ARGUMENT, nothing written), then SP_NO_ROOM for a reply buffer under 600 bytes
- * (nothing written), then SP_BAD_STORE, SP_BAD_TIME, SP_BAD_FRAME, SP_BAD_KEY,
- * SP_VALUE_TOO_LARGE, SP_CLOCK_SPENT, and SP_OVERTAKEN or SP_STORE_FULL, each with an ERR frame
- * at the front of the reply. */
+/* Answers one request frame at the reading `now`; the answer is the reply's length in bytes.
+ * PUT and DEL move the clock as sp_clock_send and offer an entry with its stamp; REPL moves it as
+ * sp_clock_receive and offers its entry as it came. The reply is OK, for REPL also where the held
+ * entry is kept. GET is answered with VALUE or NOTFOUND and moves no clock. Of the refusals the
+ * first two write nothing, and each of the others an ERR frame with its number:
+ *   SP_BAD_ARGUMENT     the words are no clock
+ *   SP_NO_ROOM          `reply` has fewer than SP_FRAME_MAX bytes
+ *   SP_BAD_STORE        the store is not sound
+ *   SP_BAD_TIME         `now` or the clock's phys is out of range
+ *   SP_BAD_FRAME        the bytes are no frame, or one of a reply
+ *   SP_BAD_KEY          the key is not acceptable
+ *   SP_VALUE_TOO_LARGE  the value has more than SP_VALUE_MAX bytes
+ *   SP_CLOCK_SPENT      as sp_clock_send for PUT and DEL, and sp_clock_receive for REPL
+ *   SP_OVERTAKEN        the stamp of a PUT or DEL is not above the one held for its key
+ *   SP_STORE_FULL       the key is not held, and no slot is free */
 sp_result sp_handle(uint8_t *store, size_t store_len, uint64_t *clock, size_t clock_len,
                     uint64_t now, const uint8_t *frame, size_t frame_len, uint8_t *reply,
                     size_t reply_len);

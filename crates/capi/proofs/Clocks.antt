@@ -11,12 +11,13 @@ use borrow.Author.Tests.{lt-ltb, le-ltb, eq-eqb, ne-eqb, ltb-true, eqb-true}
 use Rattle.wire.proofs.Tests.{test, and-true}
 use Rattle.clock.specs.declared.Clock.{Clock}
 use Rattle.clock.specs.Clock.{Stepped, next, refused, freshClock, sendStep, receiveStep}
-use Rattle.clock.specs.Answer.{given, clockAfter, refusalOf}
-use Rattle.capi.specs.Result.{packed}
-use Rattle.capi.specs.Words.{word, clockWords, isClock, clockOf}
+use Rattle.clock.specs.Answer.{given, clockAfter, stepRefusalOf}
+use Rattle.capi_words.specs.Result.{packed}
+use Rattle.capi_words.specs.Words.{word}
+use Rattle.capi.specs.Words.{clockWords, isClock, clockOf}
 use Rattle.capi.specs.Clock.{stepRefusal, stepWords, sendRefusal}
 use Rattle.capi.specs.Meaning.{ClockLayout, ClockWordsAre, StepKeeps, RefusedClock}
-use Rattle.capi.proofs.Fronts.{front-kept}
+use Rattle.capi_words.proofs.Fronts.{front-kept}
 
 module _ (w : List ℕ) where
   pub no-clock-length : (length w ≡ 4 → ⊥) → false ≡ isClock w
@@ -50,7 +51,12 @@ clock-parts w h =
     let a = and-true (eqb (length w) 4 && ltb (word w 1) (2 ^ 16) && ltb (word w 2) (2 ^ 8)) (ltb (word w 3) (2 ^ 32)) h in
     let b = and-true (eqb (length w) 4 && ltb (word w 1) (2 ^ 16)) (ltb (word w 2) (2 ^ 8)) (a .0) in
     let d = and-true (eqb (length w) 4) (ltb (word w 1) (2 ^ 16)) (b .0) in
-    record { size = eqb-true (length w) 4 (d .0); logical = ltb-true (word w 1) (2 ^ 16) (d .1); node = ltb-true (word w 2) (2 ^ 8) (b .1); skew = ltb-true (word w 3) (2 ^ 32) (a .1) }
+    record {
+      size = eqb-true (length w) 4 (d .0);
+      logical = ltb-true (word w 1) (2 ^ 16) (d .1);
+      node = ltb-true (word w 2) (2 ^ 8) (b .1);
+      skew = ltb-true (word w 3) (2 ^ 32) (a .1);
+    }
 
 four-words : (w : List ℕ) → length w ≡ 4 → word w 0 ∷ word w 1 ∷ word w 2 ∷ word w 3 ∷ [] ≡ w
 four-words [] h = absurd (omega arith)
@@ -68,7 +74,7 @@ pub clock-words-are : ClockWordsAre
 clock-words-are c r = sym (clock-skew (clockWords c) refl (r .logical) (r .node)) ∙ lt-ltb (c .skew) (2 ^ 32) (r .skew)
 
 -- ---- a step on words
-pub given-refusal : (s : Stepped) → sendRefusal (given s) ≡ refusalOf s
+pub given-refusal : (s : Stepped) → sendRefusal (given s) ≡ stepRefusalOf s
 given-refusal (next d) = refl
 given-refusal (refused n) = refl
 
@@ -77,17 +83,17 @@ module _ (step : Clock → Stepped) (w : List ℕ) (r : ℕ) where
   unfolding stepRefusal stepWords
   step-no-clock f e = (rw f e, rw f)
 
-  pub step-clock : (c d : Clock) (n : ℕ) (out : List ℕ) → isClock w ≡ true → c ≡ clockOf w → d ≡ clockAfter c (step c) → n ≡ refusalOf (step c)
+  pub step-clock : (c d : Clock) (n : ℕ) (out : List ℕ) → isClock w ≡ true → c ≡ clockOf w → d ≡ clockAfter c (step c) → n ≡ stepRefusalOf (step c)
       → r ≡ packed n 0 → out ≡ clockWords d ++ drop 4 w → (r ≡ packed (stepRefusal step w) 0) × (out ≡ stepWords step w)
   unfolding stepRefusal stepWords
   step-clock c d n out t ce de ne re oe =
       let end : drop 4 w ≡ [] = drop-of-length-le w {i = 4} (omega (arith, clock-parts w t .size)) in (
-        rw t (re ∙ ap (λ (m : ℕ). packed m 0) (ne ∙ ap (λ (x : Clock). refusalOf (step x)) ce)),
+        rw t (re ∙ ap (λ (m : ℕ). packed m 0) (ne ∙ ap (λ (x : Clock). stepRefusalOf (step x)) ce)),
         rw t (oe ∙ ap (λ (l : List ℕ). clockWords d ++ l) end ∙ ap clockWords (de ∙ ap (λ (x : Clock). clockAfter x (step x)) ce)),
       )
 
 -- ---- a refused step
-same-clock : (c : Clock) (s : Stepped) → (refusalOf s ≡ 0 → ⊥) → clockAfter c s ≡ c
+same-clock : (c : Clock) (s : Stepped) → (stepRefusalOf s ≡ 0 → ⊥) → clockAfter c s ≡ c
 same-clock c (next d) h = absurd (h refl)
 same-clock c (refused n) h = refl
 

@@ -1,9 +1,7 @@
-pub mod Fronts
+pub mod Bytes
 pub mod Clocks
-pub mod Rows
-pub mod Events
-pub mod Rings
 pub mod Frames
 pub mod Stores
 pub mod Places
 pub mod Handles
+pub mod Halves

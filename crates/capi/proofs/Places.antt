@@ -1,13 +1,19 @@
--- The bytes at the places that are put out: the value in a store, and the key and the value in a frame.
+-- The bytes at the places that are put out: the value or an entry in a store, and the key and the value in a frame.
 use mathlib.Core.Path.{_≡_, refl, sym, ap, _∙_}
+use mathlib.Core.Bool.{true}
 use mathlib.Core.List.{List}
+use mathlib.Core.Option.{some, Option·some-injective}
 use Prim.Native.Nat.{ℕ}
 use native.Mathlib.Omega.{arith}
 use Rattle.wire.specs.Fill.{field}
+use Rattle.entry.specs.Entry.{Entry, entryOf}
+use Rattle.image.specs.Image.{entriesOf, sound}
 use Rattle.image.proofs.Compared.{distinct}
 use Rattle.store.specs.Lookup.{Finding, lookupAnswer, valuePart}
 use Rattle.store.specs.Lookup as lookup
+use Rattle.store.specs.Listing.{nth, listingFor, entryAnswer}
 use Rattle.store.proofs.Looking.{value-stands, no-value}
+use Rattle.store.proofs.Listings.{entry-stands, each-listed}
 use Rattle.frame.specs.declared.answer.Message.{Message as Located}
 use Rattle.frame.specs.declared.answer.Message.the-variants.{Put, Get, Del, Repl, Ok, Value, NotFound, Err}
 use Rattle.frame.specs.declared.answer.Read.{Read}
@@ -15,8 +21,8 @@ use Rattle.frame.specs.declared.answer.Read.the-variants as read
 use Rattle.frame.specs.Message.{Message, keyOf, valueOf}
 use Rattle.frame.specs.Reading.{message, messageIn, meaning, readAnswer, readFrame}
 use Rattle.capi.specs.Frame.{fieldWords, readWords}
-use Rattle.capi.specs.Store.{placeWords}
-use Rattle.capi.specs.Meaning.{partAt, ValuePlace, FieldPlaces}
+use Rattle.capi.specs.Store.{placeWords, listWords}
+use Rattle.capi.specs.Meaning.{partAt, ValuePlace, EntryPlaces, FieldPlaces}
 
 -- ---- the value in a store
 at-place : (s k : List ℕ) (f : Finding) → lookupAnswer s k ≡ f → partAt 0 (placeWords f) s ≡ valuePart s k
@@ -28,6 +34,21 @@ at-place s k (lookup.refused n) e = no-value s k (λ at len q. distinct (lookup.
 
 pub value-place : ValuePlace
 value-place s k = at-place s k (lookupAnswer s k) refl
+
+-- ---- the key and the value of an entry in a store
+module _ (s : List ℕ) (i : ℕ) (e : Entry) (ok : sound s ≡ true) (n : nth i (entriesOf s) ≡ some e) where
+  -- the entry, with what stands at its places
+  entry-is : entryOf (partAt 1 (listWords (entryAnswer s i)) s) (partAt 3 (listWords (entryAnswer s i)) s) (e .flag) (e .stamp) ≡ e
+  unfolding listingFor
+  entry-is =
+      let told = each-listed s i e ok n in
+      rw told (Option·some-injective _ e (sym (entry-stands s i _ _ _ _ _ _ told .is) ∙ n))
+
+pub entry-places : EntryPlaces
+entry-places = record {
+  key = λ s i e ok n. ap (λ (x : Entry). x .key) (entry-is s i e ok n);
+  value = λ s i e ok n. ap (λ (x : Entry). x .value) (entry-is s i e ok n);
+}
 
 -- ---- the key and the value in a frame
 key-in : (s : List ℕ) (l : Located) → partAt 1 (fieldWords l) s ≡ keyOf (messageIn s l)

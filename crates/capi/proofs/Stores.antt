@@ -1,13 +1,21 @@
 -- The answers of the store's functions.
 use mathlib.Core.Path.{_≡_, refl, _∙_}
-use mathlib.Core.List.{List}
+use mathlib.Core.List.{List, []}
 use Prim.Native.Nat.{ℕ}
 use native.Mathlib.Omega.{arith}
 use lib.ListN.{length}
+use Rattle.entry.specs.declared.Refusal.{Refusal}
+use Rattle.entry.specs.declared.Stamp.{Stamp}
+use Rattle.entry.specs.Refusal.{number}
 use Rattle.store.specs.Lookup.{Finding, value, deleted, never, refused, lookupAnswer}
+use Rattle.store.specs.declared.Listed.{Listed}
+use Rattle.store.specs.declared.Listed.the-variants as listed
+use Rattle.store.specs.Listing.{listingOf, entryAnswer}
 use Rattle.frame.specs.Writing.{writeRefusal, afterWrite}
-use Rattle.capi.specs.Store.{lookRefusal, lookNumber, placeWords, placeRefusal, lookupWord}
-use Rattle.capi.proofs.Fronts.{Puts, not-none, none}
+use Rattle.capi_words.specs.Result.{packed}
+use Rattle.capi.specs.Frame.{replWords}
+use Rattle.capi.specs.Store.{lookRefusal, lookNumber, placeWords, placeRefusal, foundNumber, lookupWord, listRefusal, listWords}
+use Rattle.capi_words.proofs.Fronts.{Puts, not-none, none, front-refused}
 
 pub two-words : (f : Finding) → length (placeWords f) ≡ 2
 two-words (value at len) = refl
@@ -23,9 +31,23 @@ module _ (store key place : List ℕ) (r : ℕ) (after : List ℕ) where
   own = lookRefusal (lookupAnswer store key)
 
   pub look-refused : Puts own front place r after → (r ≡ 0 → ⊥) → (r ≡ lookupWord store key place) × (after ≡ afterWrite own front place)
-  unfolding lookupWord placeRefusal
+  unfolding placeRefusal foundNumber
   look-refused p h = (rw (not-none (writeRefusal own front place) r (p .told) h) (p .told), p .left)
 
-  pub look-found : Puts own front place 0 after → r ≡ lookNumber (lookupAnswer store key) → (r ≡ lookupWord store key place) × (after ≡ afterWrite own front place)
-  unfolding lookupWord placeRefusal
+  pub look-found : Puts own front place 0 after → r ≡ lookNumber (lookupAnswer store key)
+      → (r ≡ lookupWord store key place) × (after ≡ afterWrite own front place)
+  unfolding placeRefusal foundNumber
   look-found p e = (rw (none (writeRefusal own front place) 0 (p .told) refl) (e ∙ omega arith), p .left)
+
+-- ---- an entry that is asked for by its number
+module _ (s : List ℕ) (i : ℕ) (lent : List ℕ) (o : Listed) (is : listingOf o ≡ entryAnswer s i) where
+  -- the result r, and what is left of the words
+  abbrev EntryPut : ℕ → List ℕ → Type 0
+  EntryPut r after = Puts (listRefusal (entryAnswer s i)) (listWords (entryAnswer s i)) lent r after
+
+  pub entry-refused : (why : Refusal) → o ≡ listed.Refused why → (r : ℕ) → r ≡ packed (number why) 0 → EntryPut r lent
+  entry-refused why e r h = rw (← is, e) (front-refused (number why) [] lent r why refl h)
+
+  pub entry-put : (ka kl va vl flag : ℕ) (stamp : Stamp) → o ≡ listed.Entry ka kl va vl flag stamp → (words : List ℕ) → words ≡ replWords ka kl va vl flag stamp
+      → (r : ℕ) (after : List ℕ) → Puts 0 words lent r after → EntryPut r after
+  entry-put ka kl va vl flag stamp e words w r after p = rw (← is, e) (rw w at p)

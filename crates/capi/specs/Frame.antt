@@ -10,7 +10,7 @@ use Rattle.frame.specs.declared.answer.Read.the-variants as read
 use Rattle.frame.specs.Message.{Message, messageRefusal}
 use Rattle.frame.specs.Layout.{frameOf}
 use Rattle.frame.specs.Writing.{Answer, bytes, refused, writeAnswer, afterWrite}
-use Rattle.capi.specs.Result.{packed}
+use Rattle.capi_words.specs.Result.{packed}
 
 -- how many bytes a writer's answer counts, or 0
 abbrev pub bytesIn : Answer → ℕ
@@ -31,15 +31,15 @@ writeBytes m out = afterWrite (messageRefusal m) (frameOf m) out
 
 -- The ten words: type; where the key stands in the frame and its length; where the value stands and its length; flag; phys; logical; node; ERR number.
 -- A word without a use is 0.
--- Those of a message that has no more than a key and a value
+-- Those of a message that has no more than a key and a value (R241)
 abbrev pub partWords : ℕ → ℕ → ℕ → ℕ → ℕ → List ℕ
 partWords t ka kl va vl = t ∷ ka ∷ kl ∷ va ∷ vl ∷ 0 ∷ 0 ∷ 0 ∷ 0 ∷ 0 ∷ []
 
--- those of a REPL
+-- those of a REPL (R241)
 abbrev pub replWords : ℕ → ℕ → ℕ → ℕ → ℕ → Stamp → List ℕ
 replWords ka kl va vl f stamp = 4 ∷ ka ∷ kl ∷ va ∷ vl ∷ f ∷ stamp .phys ∷ stamp .logical ∷ stamp .node ∷ 0 ∷ []
 
--- those of a message that was read
+-- those of a message that was read (R241)
 abbrev pub fieldWords : Located → List ℕ
 fieldWords (Put ka kl va vl) = partWords 1 ka kl va vl
 fieldWords (Get ka kl) = partWords 2 ka kl 0 0
@@ -55,7 +55,7 @@ abbrev pub readRefusal : Read → ℕ
 readRefusal (read.Message m) = 0
 readRefusal (read.Refused r) = number r
 
--- what a reading puts into the words
+-- what a reading puts into the words (R241)
 abbrev pub readWords : Read → List ℕ
 readWords (read.Message m) = fieldWords m
 readWords (read.Refused r) = []

@@ -1,8 +1,5 @@
-pub mod Result
 pub mod Words
 pub mod Clock
-pub mod Peers
-pub mod Ring
 pub mod Frame
 pub mod Store
 pub mod Handle

@@ -1,65 +1,68 @@
--- What holds of the words that the functions take and put out.
+-- What holds of the results, and of the words that the functions take and put out.
 use Prim.Native.Nat.{ℕ, _+_, _^_, _<_}
 use mathlib.Core.Path.{_≡_}
 use mathlib.Core.Bool.{true}
 use mathlib.Core.List.{List}
-use lib.ListN.{length}
+use mathlib.Core.Option.{some}
 use Rattle.wire.specs.Fill.{field}
+use Rattle.entry.specs.Entry.{Entry}
 use Rattle.clock.specs.declared.Clock.{Clock}
 use Rattle.clock.specs.Clock.{Stepped, freshClock, sendStep, receiveStep}
-use Rattle.peers.specs.declared.Row.{Row}
-use Rattle.peers.specs.declared.PeerTable.{PeerTable}
-use Rattle.peers.specs.Event.{freshAnswer, afterFresh, addAnswer, afterAdd, heardAnswer, afterHeard, reportedAnswer, afterReported, tickAnswer, afterTick}
-use Rattle.frame.specs.Message.{Message, keyOf, valueOf}
+use Rattle.frame.specs.Message.{Message, messageRefusal, keyOf, valueOf}
+use Rattle.frame.specs.Layout.{maxFrame, frameOf}
 use Rattle.frame.specs.Reading.{message, readAnswer, readFrame}
-use Rattle.frame.specs.Writing.{writeRefusal, afterWrite}
-use Rattle.store.specs.Held.{_∈_}
+use Rattle.frame.specs.Writing.{Answer as Wrote, writeRefusal, writeAnswer}
+use Rattle.image.specs.Image.{entriesOf, sound}
+use Rattle.store.specs.Answer.{Answer as Offered}
+use Rattle.store.specs.Create.{createRefusal}
 use Rattle.store.specs.Lookup.{lookupAnswer, valuePart}
-use Rattle.capi.specs.Words.{word, clockWords, isClock, clockOf, tableWords, isTable, tableOf}
+use Rattle.store.specs.Listing.{nth, entryAnswer}
+use Rattle.store.specs.Offer.{offerAnswer}
+use Rattle.store.specs.Merge.{mergeAnswer}
+use Rattle.capi_words.specs.Words.{word}
+use Rattle.capi_words.specs.Meaning.{TakenApart, Alone, PutKeeps}
+use Rattle.capi.specs.Words.{clockWords, isClock, clockOf}
 use Rattle.capi.specs.Clock.{stepRefusal, stepWords}
-use Rattle.capi.specs.Peers.{eventRefusal, eventWords}
-use Rattle.capi.specs.Frame.{readWords}
-use Rattle.capi.specs.Store.{placeWords}
+use Rattle.capi.specs.Frame.{bytesIn, writeWord, readRefusal, readWords}
+use Rattle.capi.specs.Store.{storeRefusal, storeNumber, storeWord, placeWords, placeRefusal, foundNumber, lookupWord, listRefusal, listWords}
+use Rattle.capi.specs.Handle.{handleRefusal, handleLength, handleWord, handleStore, handleClock}
+
+-- ---- results
+-- every result of the functions (R236)
+pub record ResultsTakenApart : Type 0 where
+  -- without an answer
+  pub clock-fresh : (node : ℕ) (w : List ℕ) → Alone (writeRefusal 0 (clockWords (freshClock node)) w)
+  pub clock-send : (now : ℕ) (w : List ℕ) → Alone (stepRefusal (λ c. sendStep c now) w)
+  pub clock-receive : (p l now : ℕ) (w : List ℕ) → Alone (stepRefusal (λ c. receiveStep c p l now) w)
+  pub frame-read : (frame w : List ℕ) → Alone (writeRefusal (readRefusal (readAnswer frame)) (readWords (readAnswer frame)) w)
+  pub store-create : (store : List ℕ) (slots : ℕ) → Alone (createRefusal store slots)
+  pub store-entry : (store : List ℕ) (i : ℕ) (w : List ℕ) → Alone (writeRefusal (listRefusal (entryAnswer store i)) (listWords (entryAnswer store i)) w)
+  -- with one: a frame's length, what became of a lookup, an offer and a merge, a reply's length
+  pub write : (m : Message) (out : List ℕ) → let a : Wrote = writeAnswer (messageRefusal m) (frameOf m) out in
+      TakenApart (writeWord m out) (writeRefusal (messageRefusal m) (frameOf m) out) (bytesIn a) maxFrame
+  pub store-lookup : (store key place : List ℕ) → TakenApart (lookupWord store key place) (placeRefusal store key place) (foundNumber store key place) 2
+  pub store-offer : (store : List ℕ) (e : Entry) → let a : Offered = offerAnswer store e in TakenApart (storeWord a) (storeRefusal a) (storeNumber a) 2
+  pub store-merge : (receiver giver : List ℕ) → let a : Offered = mergeAnswer receiver giver in TakenApart (storeWord a) (storeRefusal a) (storeNumber a) 0
+  pub handle : (store w : List ℕ) (time : ℕ) (frame reply : List ℕ)
+      → TakenApart (handleWord store w time frame reply) (handleRefusal store w time frame reply) (handleLength store w time frame reply) maxFrame
 
 -- ---- layouts
--- words that are a clock or a table are those of the clock or the table they stand for, and the other way round
+-- words that are a clock are those of the clock they stand for, and the other way round (R237)
 pub record ClockLayout : Type 0 where
   pub back : (c : Clock) → clockOf (clockWords c) ≡ c
   pub same : (w : List ℕ) → isClock w ≡ true → clockWords (clockOf w) ≡ w
 
-pub record TableLayout : Type 0 where
-  pub back : (t : PeerTable) → length (t .rows) ≡ 10 → tableOf (tableWords t) ≡ t
-  pub same : (w : List ℕ) → isTable w ≡ true → tableWords (tableOf w) ≡ w
-
--- each number is in the range of its field; the language keeps this of every clock and table
+-- each number is in the range of its field; the language keeps this of every clock (R5, R6)
 pub record ClockInRange (c : Clock) : Type 0 where
   pub logical : c .logical < 2 ^ 16
   pub node : c .node < 2 ^ 8
   pub skew : c .skew < 2 ^ 32
 
-pub record RowInRange (r : Row) : Type 0 where
-  pub id : r .id < 2 ^ 8
-  pub address : r .address < 2 ^ 32
-  pub port : r .port < 2 ^ 16
-  pub state : r .state < 2 ^ 8
-  pub incarnation : r .incarnation < 2 ^ 32
-
-pub record TableInRange (t : PeerTable) : Type 0 where
-  pub ten : length (t .rows) ≡ 10
-  pub count : t .count < 2 ^ 8
-  pub each : (r : Row) → r ∈ t .rows → RowInRange r
-
--- the words of a clock are a clock, and those of a table a table
+-- the words of a clock are a clock (R237)
 abbrev pub ClockWordsAre : Type 0
 ClockWordsAre = (c : Clock) → ClockInRange c → isClock (clockWords c) ≡ true
 
-abbrev pub TableWordsAre : Type 0
-TableWordsAre = (t : PeerTable) → TableInRange t → isTable (tableWords t) ≡ true
-
--- ---- a refusal leaves the words as they came
-abbrev pub PutKeeps : ℕ → List ℕ → Type 0
-PutKeeps n f = (w : List ℕ) → (writeRefusal n f w ≡ 0 → ⊥) → afterWrite n f w ≡ w
-
+-- ---- a refusal leaves the words as they came (R29, R170, R245)
 abbrev pub StepKeeps : (Clock → Stepped) → Type 0
 StepKeeps step = (w : List ℕ) → (stepRefusal step w ≡ 0 → ⊥) → stepWords step w ≡ w
 
@@ -68,26 +71,28 @@ pub record RefusedClock : Type 0 where
   pub send : (now : ℕ) → StepKeeps (λ c. sendStep c now)
   pub receive : (p l now : ℕ) → StepKeeps (λ c. receiveStep c p l now)
 
-abbrev pub EventKeeps : ℕ → (PeerTable → ℕ) → (PeerTable → PeerTable) → Type 0
-EventKeeps now answer after = (w : List ℕ) → (eventRefusal now answer w ≡ 0 → ⊥) → eventWords now after w ≡ w
-
-pub record RefusedTable : Type 0 where
-  pub fresh : (i a p n now : ℕ) → PutKeeps (freshAnswer now) (tableWords (afterFresh i a p n now))
-  pub add : (i a p n now : ℕ) → EventKeeps now (addAnswer i now) (afterAdd i a p n now)
-  pub heard : (i n now : ℕ) → EventKeeps now (heardAnswer i n now) (afterHeard i n now)
-  pub reported : (i s n now : ℕ) → EventKeeps now (reportedAnswer i s n now) (afterReported i s n now)
-  pub tick : (now : ℕ) → EventKeeps now (tickAnswer now) (afterTick now)
+-- a refused request leaves the store and the clock's words as they came (R170, R245)
+abbrev pub RefusedHandle : Type 0
+RefusedHandle = (store w : List ℕ) (time : ℕ) (frame reply : List ℕ) → (handleRefusal store w time frame reply ≡ 0 → ⊥)
+    → (handleStore store w time frame reply ≡ store) × (handleClock store w time frame reply ≡ w)
 
 -- ---- places
 -- the bytes at the place that word i gives, as many as the next word says
 abbrev pub partAt : ℕ → List ℕ → List ℕ → List ℕ
 partAt i w s = field (word w i) (word w (i + 1)) s
 
--- at the place that a lookup puts out the store has the value of the key, and no bytes where there is none
+-- at the place that a lookup puts out the store has the value of the key, and no bytes where there is none (R124)
 abbrev pub ValuePlace : Type 0
 ValuePlace = (store key : List ℕ) → partAt 0 (placeWords (lookupAnswer store key)) store ≡ valuePart store key
 
--- at the places that a reading puts out the frame has the key and the value of its message
+-- at the places that the words of the i-th entry held put out the store has its key and its value (R243)
+pub record EntryPlaces : Type 0 where
+  pub key : (store : List ℕ) (i : ℕ) (e : Entry) → sound store ≡ true → nth i (entriesOf store) ≡ some e
+      → partAt 1 (listWords (entryAnswer store i)) store ≡ e .key
+  pub value : (store : List ℕ) (i : ℕ) (e : Entry) → sound store ≡ true → nth i (entriesOf store) ≡ some e
+      → partAt 3 (listWords (entryAnswer store i)) store ≡ e .value
+
+-- at the places that a reading puts out the frame has the key and the value of its message (R53 to R56, R58)
 pub record FieldPlaces : Type 0 where
   pub key : (frame : List ℕ) (m : Message) → readFrame frame ≡ message m → partAt 1 (readWords (readAnswer frame)) frame ≡ keyOf m
   pub value : (frame : List ℕ) (m : Message) → readFrame frame ≡ message m → partAt 3 (readWords (readAnswer frame)) frame ≡ valueOf m

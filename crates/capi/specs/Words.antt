@@ -1,71 +1,23 @@
--- A clock as four words and a peer table as 61.
-use Prim.Native.Nat.{ℕ, zero, suc, _+_, _*_, _^_}
-use mathlib.Core.Bool.{Bool, true, _&&_}
-use mathlib.Core.List.{List, [], _∷_, _++_}
-use lib.ListN.{length, getD}
+-- A clock as four words.
+use Prim.Native.Nat.{ℕ, _^_}
+use mathlib.Core.Bool.{Bool, _&&_}
+use mathlib.Core.List.{List, [], _∷_}
+use lib.ListN.{length}
 use lib.Dec.{ltb, eqb}
 use Rattle.entry.specs.declared.Stamp.{Stamp}
 use Rattle.clock.specs.declared.Clock.{Clock}
-use Rattle.peers.specs.declared.Row.{Row}
-use Rattle.peers.specs.declared.PeerTable.{PeerTable}
+use Rattle.capi_words.specs.Words.{word}
 
-abbrev pub word : List ℕ → ℕ → ℕ
-word w i = getD w i 0
-
--- ---- a clock: phys, logical, node, skew count
+-- ---- a clock: phys, logical, node, skew count (R237)
 abbrev pub clockWords : Clock → List ℕ
 clockWords c = c .phys ∷ c .logical ∷ c .node ∷ c .skew ∷ []
 
--- four words, and each fits its field
+-- four words, and each fits its field (R237)
 unfoldable pub isClock : List ℕ → Bool
 isClock w = eqb (length w) 4 && ltb (word w 1) (2 ^ 16) && ltb (word w 2) (2 ^ 8) && ltb (word w 3) (2 ^ 32)
 
 unfoldable pub clockOf : List ℕ → Clock
 clockOf w = record { phys = word w 0; logical = word w 1; node = word w 2; skew = word w 3 }
-
--- ---- a peer table: the number of rows, then ten rows of six words
--- a row: id, address, port, state, incarnation, last seen
-abbrev pub rowWords : Row → List ℕ
-rowWords r = r .id ∷ r .address ∷ r .port ∷ r .state ∷ r .incarnation ∷ r .«last_seen» ∷ []
-
-unfoldable pub rowsWords : List Row → List ℕ
-rowsWords [] = []
-rowsWords (r ∷ rows) = rowWords r ++ rowsWords rows
-
-unfoldable pub tableWords : PeerTable → List ℕ
-tableWords t = t .count ∷ rowsWords (t .rows)
-
--- where row k begins
-abbrev pub rowAt : ℕ → ℕ
-rowAt k = 1 + 6 * k
-
--- the words of row k fit their fields
-unfoldable pub rowFits : ℕ → List ℕ → Bool
-rowFits k w =
-    ltb (word w (rowAt k)) (2 ^ 8) && ltb (word w (rowAt k + 1)) (2 ^ 32) && ltb (word w (rowAt k + 2)) (2 ^ 16)
-    && ltb (word w (rowAt k + 3)) (2 ^ 8) && ltb (word w (rowAt k + 4)) (2 ^ 32)
-
--- row k
-unfoldable pub rowOf : ℕ → List ℕ → Row
-rowOf k w =
-    record { id = word w (rowAt k); address = word w (rowAt k + 1); port = word w (rowAt k + 2); state = word w (rowAt k + 3); incarnation = word w (rowAt k + 4); «last_seen» = word w (rowAt k + 5) }
-
--- the words of the first n rows fit
-unfoldable pub rowsFit : ℕ → List ℕ → Bool
-rowsFit zero w = true
-rowsFit (suc n) w = rowFits n w && rowsFit n w
-
--- the first n rows
-unfoldable pub rowsOf : ℕ → List ℕ → List Row
-rowsOf zero w = []
-rowsOf (suc n) w = rowsOf n w ++ rowOf n w ∷ []
-
--- 61 words, and each fits its field, in the rows past the last too
-unfoldable pub isTable : List ℕ → Bool
-isTable w = eqb (length w) 61 && ltb (word w 0) (2 ^ 8) && rowsFit 10 w
-
-unfoldable pub tableOf : List ℕ → PeerTable
-tableOf w = record { rows = rowsOf 10 w; count = word w 0 }
 
 -- ---- a stamp from its parts
 abbrev pub stampFrom : ℕ → ℕ → ℕ → Stamp

@@ -1,68 +1,53 @@
-// The C interface, over numbers and slices of numbers: each function reads its arguments, calls the function that is proved below, and packs the answer.
+// The C interface of the checksums, the clock, frames, the store and the handler, over numbers and
+// slices of numbers: each function reads its arguments, calls the function that is proved below,
+// and packs the answer.
 mod result;
 mod words;
 
+use capi_words::byte_of;
+use capi_words::flag;
+use capi_words::put_front;
+use capi_words::refused;
 use clock::Clock;
 use entry::Refusal;
 use entry::Stamp;
-use entry::TIME_LIMIT;
 use frame::Read;
-use peers::Admission;
-use peers::Changed;
-use peers::PeerAnswer;
-use peers::PeerTable;
-use result::built;
 use result::created;
-use result::flag;
 use result::found;
 use result::looked;
 use result::merged;
-use result::noted;
 use result::offered;
 use result::received;
-use result::refused;
 use result::replied;
 use result::sent;
-use result::walked;
 use result::wrote;
-use ring::KeyPosition;
+use store::Listed;
 use store::Looked;
 use words::clock_of;
 use words::field_words;
 use words::is_clock;
-use words::is_table;
 use words::put_clock;
-use words::put_front;
-use words::put_table;
-use words::table_of;
+use words::repl_words;
 ghost use mathlib.Core.Path.{_≡_};
-ghost use mathlib.Core.List.{[], _∷_, _++_};
-ghost use Prim.Native.Nat.{_<_, _≤_};
-ghost use lib.ListN.{length, drop};
 ghost use Rattle.checksum.specs.Crc32c.{crc32c};
 ghost use Rattle.checksum.specs.Fmix32.{fmix32};
 ghost use Rattle.entry.specs.Entry.{entryOf};
 ghost use Rattle.clock.specs.Clock.{freshClock, sendStep, receiveStep};
-ghost use Rattle.peers.specs.Event.{answerNumber, freshAnswer, afterFresh, addAnswer, afterAdd, heardAnswer, afterHeard, reportedAnswer, afterReported, tickAnswer, afterTick};
-ghost use Rattle.ring.specs.Place.{tokenOf, positionAnswer};
-ghost use Rattle.ring.specs.Build.{buildAnswer, buildOutput};
-ghost use Rattle.ring.specs.Sound.{soundRing};
 ghost use Rattle.frame.specs.Message.{put, get, del, repl, ok, value as valueOf, notFound, err};
 ghost use Rattle.frame.specs.Reading.{readAnswer};
 ghost use Rattle.frame.specs.Writing.{writeRefusal, afterWrite};
 ghost use Rattle.image.specs.Image.{sound as soundStore};
 ghost use Rattle.store.specs.Create.{createRefusal, afterCreate};
 ghost use Rattle.store.specs.Lookup.{findingOf, lookupAnswer};
+ghost use Rattle.store.specs.Listing.{entryAnswer};
 ghost use Rattle.store.specs.Offer.{offerAnswer, afterOffer};
 ghost use Rattle.store.specs.Merge.{mergeAnswer, afterMerge};
-ghost use Rattle.capi.specs.Result.{packed, flag as flagOf};
-ghost use Rattle.capi.specs.Words.{clockWords, tableWords, stampFrom};
+ghost use Rattle.capi_words.specs.Result.{packed, flag as flagOf};
+ghost use Rattle.capi.specs.Words.{clockWords, stampFrom};
 ghost use Rattle.capi.specs.Clock.{stepRefusal, stepWords};
 ghost use Rattle.capi.specs.Handle.{handleWord, handleStore, handleClock, handleReply};
-ghost use Rattle.capi.specs.Peers.{formRefusal, eventRefusal, eventWords, soundWords};
-ghost use Rattle.capi.specs.Ring.{refusalIn, givenIn, answerWord, admissionOf, badForm, ownersRefusal, ownersBytes};
 ghost use Rattle.capi.specs.Frame.{readRefusal, readWords, writeWord, writeBytes};
-ghost use Rattle.capi.specs.Store.{storeWord, lookRefusal, placeWords, lookupWord};
+ghost use Rattle.capi.specs.Store.{storeWord, lookRefusal, placeWords, lookupWord, listRefusal, listWords};
 
 // ---- Checksums
 
@@ -125,221 +110,6 @@ pub extern "C" fn sp_clock_receive(phys: u64, logical: u16, time: u64, clock: &m
     received(answer)
 }
 
-// ---- The peer table
-
-// What comes before an event's own checks: the time, then the table's form.
-fn form_refusal(time: u64, table: &[u64]) -> u32
-    ensures { λ r. ⌜ r ≡ packed (formRefusal time (now (table .entry))) 0 ⌝ }
-{
-    if TIME_LIMIT <= time {
-        return refused(Refusal::BadTime);
-    }
-    if !is_table(table) {
-        return refused(Refusal::BadArgument);
-    }
-    0
-}
-
-// What an event handed back.
-fn put_changed(table: &mut [u64], changed: Changed) -> u32
-    requires { ⌜ 61 ≤ length (now table) ⌝ }
-    ensures told { λ r. ⌜ r ≡ packed (answerNumber (changed .answer)) 0 ⌝ }
-    ensures left { λ _. ⌜ now (table .exit) ≡ tableWords (changed .table) ++ drop 61 (now (table .entry)) ⌝ }
-{
-    put_table(changed.table, table);
-    let answer = changed.answer;
-    noted(answer)
-}
-
-// A table with the own row alone.
-#[no_mangle]
-pub extern "C" fn sp_peers_fresh(
-    id: u8,
-    address: u32,
-    port: u16,
-    incarnation: u32,
-    time: u64,
-    table: &mut [u64],
-) -> u32
-    ensures told { λ r. ⌜ r ≡ packed (writeRefusal (freshAnswer time) (tableWords (afterFresh id address port incarnation time)) (now (table .entry))) 0 ⌝ }
-    ensures left { λ _. ⌜ now (table .exit) ≡ afterWrite (freshAnswer time) (tableWords (afterFresh id address port incarnation time)) (now (table .entry)) ⌝ }
-{
-    let fresh = PeerTable::fresh(id, address, port, incarnation, time);
-    let answer = fresh.answer;
-    if let PeerAnswer::Refused(why) = answer {
-        return refused(why);
-    }
-    if table.len() < 61 {
-        return refused(Refusal::NoRoom);
-    }
-    put_changed(table, fresh)
-}
-
-// Adds a peer.
-#[no_mangle]
-pub extern "C" fn sp_peers_add(
-    id: u8,
-    address: u32,
-    port: u16,
-    incarnation: u32,
-    time: u64,
-    table: &mut [u64],
-) -> u32
-    ensures told { λ r. ⌜ r ≡ packed (eventRefusal time (addAnswer id time) (now (table .entry))) 0 ⌝ }
-    ensures left { λ _. ⌜ now (table .exit) ≡ eventWords time (afterAdd id address port incarnation time) (now (table .entry)) ⌝ }
-{
-    let refusal = form_refusal(time, table);
-    if refusal != 0 {
-        return refusal;
-    }
-    let changed = table_of(table).add(id, address, port, incarnation, time);
-    put_changed(table, changed)
-}
-
-// A peer was heard directly.
-#[no_mangle]
-pub extern "C" fn sp_peers_heard(id: u8, incarnation: u32, time: u64, table: &mut [u64]) -> u32
-    ensures told { λ r. ⌜ r ≡ packed (eventRefusal time (heardAnswer id incarnation time) (now (table .entry))) 0 ⌝ }
-    ensures left { λ _. ⌜ now (table .exit) ≡ eventWords time (afterHeard id incarnation time) (now (table .entry)) ⌝ }
-{
-    let refusal = form_refusal(time, table);
-    if refusal != 0 {
-        return refusal;
-    }
-    let changed = table_of(table).heard(id, incarnation, time);
-    put_changed(table, changed)
-}
-
-// Another peer reported a peer's state.
-#[no_mangle]
-pub extern "C" fn sp_peers_reported(
-    id: u8,
-    state: u8,
-    incarnation: u32,
-    time: u64,
-    table: &mut [u64],
-) -> u32
-    ensures told { λ r. ⌜ r ≡ packed (eventRefusal time (reportedAnswer id state incarnation time) (now (table .entry))) 0 ⌝ }
-    ensures left { λ _. ⌜ now (table .exit) ≡ eventWords time (afterReported id state incarnation time) (now (table .entry)) ⌝ }
-{
-    let refusal = form_refusal(time, table);
-    if refusal != 0 {
-        return refusal;
-    }
-    let changed = table_of(table).reported(id, state, incarnation, time);
-    put_changed(table, changed)
-}
-
-// Time has passed.
-#[no_mangle]
-pub extern "C" fn sp_peers_tick(time: u64, table: &mut [u64]) -> u32
-    ensures told { λ r. ⌜ r ≡ packed (eventRefusal time (tickAnswer time) (now (table .entry))) 0 ⌝ }
-    ensures left { λ _. ⌜ now (table .exit) ≡ eventWords time (afterTick time) (now (table .entry)) ⌝ }
-{
-    let refusal = form_refusal(time, table);
-    if refusal != 0 {
-        return refusal;
-    }
-    let changed = table_of(table).tick(time);
-    put_changed(table, changed)
-}
-
-#[no_mangle]
-pub extern "C" fn sp_peers_is_sound(table: &[u64]) -> u32
-    ensures { λ r. ⌜ r ≡ flagOf (soundWords (now (table .entry))) ⌝ }
-{
-    if !is_table(table) {
-        return 0;
-    }
-    flag(table_of(table).is_sound())
-}
-
-// ---- The ring
-
-// The token of a node's vnode.
-#[no_mangle]
-pub extern "C" fn sp_token(node: u8, vnode: u8, salt: u32) -> u32
-    ensures { λ r. ⌜ r ≡ tokenOf node vnode salt ⌝ }
-{
-    ring::token(node, vnode, salt)
-}
-
-// A key's ring position, written to the first word.
-#[no_mangle]
-pub extern "C" fn sp_key_position(key: &[u8], salt: u32, position: &mut [u32]) -> u32
-    ensures told { λ r. ⌜ r ≡ packed (writeRefusal (refusalIn (positionAnswer (now (key .entry)) salt)) (givenIn (positionAnswer (now (key .entry)) salt) ∷ []) (now (position .entry))) 0 ⌝ }
-    ensures left { λ _. ⌜ now (position .exit) ≡ afterWrite (refusalIn (positionAnswer (now (key .entry)) salt)) (givenIn (positionAnswer (now (key .entry)) salt) ∷ []) (now (position .entry)) ⌝ }
-{
-    let found = ring::key_position(key, salt);
-    match found {
-        KeyPosition::Refused(why) => refused(why),
-        KeyPosition::At(at) => {
-            if position.len() < 1 {
-                return refused(Refusal::NoRoom);
-            }
-            position[0] = at;
-            0
-        }
-    }
-}
-
-// The places of some ids, at the front of `ring`.
-#[no_mangle]
-pub extern "C" fn sp_ring_build(ids: &[u8], vnodes: u8, salt: u32, ring: &mut [u64]) -> u32
-    ensures told { λ r. ⌜ r ≡ answerWord (buildAnswer (now (ids .entry)) vnodes (now (ring .entry))) ⌝ }
-    ensures left { λ _. ⌜ now (ring .exit) ≡ buildOutput (now (ids .entry)) vnodes salt (now (ring .entry)) ⌝ }
-{
-    built(ring::build(ids, vnodes, salt, ring))
-}
-
-#[no_mangle]
-pub extern "C" fn sp_ring_is_sound(ring: &[u64]) -> u32
-    ensures { λ r. ⌜ r ≡ flagOf (soundRing (now (ring .entry))) ⌝ }
-{
-    flag(ring::is_sound(ring))
-}
-
-// Whether a number is no admission, or words are no table.
-fn bad_form(admission: u8, table: &[u64]) -> bool
-    ensures { λ r. ⌜ r ≡ badForm admission (now (table .entry)) ⌝ }
-{
-    if 2 <= admission {
-        return true;
-    }
-    !is_table(table)
-}
-
-fn admission_of(number: u8) -> Admission
-    ensures { λ r. ⌜ r ≡ admissionOf number ⌝ }
-{
-    if number == 0 {
-        Admission::Home
-    } else {
-        Admission::Standing
-    }
-}
-
-// The owners of a position, at the front of `out`.
-#[no_mangle]
-pub extern "C" fn sp_owners(
-    ring: &[u64],
-    table: &[u64],
-    position: u32,
-    admission: u8,
-    count: u8,
-    out: &mut [u8],
-) -> u32
-    ensures told { λ r. ⌜ r ≡ packed (ownersRefusal (now (ring .entry)) (now (table .entry)) admission count (now (out .entry))) 0 ⌝ }
-    ensures left { λ _. ⌜ now (out .exit) ≡ ownersBytes (now (ring .entry)) (now (table .entry)) position admission count (now (out .entry)) ⌝ }
-{
-    if bad_form(admission, table) {
-        return refused(Refusal::BadArgument);
-    }
-    let peers = table_of(table);
-    let who = admission_of(admission);
-    walked(ring::owners(ring, peers, position, who, count, out))
-}
-
 // ---- Frames
 
 // What a frame says, at the front of `fields`.
@@ -352,12 +122,8 @@ pub extern "C" fn sp_frame_read(frame: &[u8], fields: &mut [u64]) -> u32
     match outcome {
         Read::Refused(why) => refused(why),
         Read::Message(message) => {
-            if fields.len() < 10 {
-                return refused(Refusal::NoRoom);
-            }
             let words = field_words(message);
-            put_front(fields, &words);
-            0
+            put_front(fields, &words)
         }
     }
 }
@@ -390,7 +156,7 @@ pub extern "C" fn sp_write_del(key: &[u8], out: &mut [u8]) -> u32
 pub extern "C" fn sp_write_repl(
     key: &[u8],
     value: &[u8],
-    flag: u8,
+    flag: u32,
     phys: u64,
     logical: u16,
     node: u8,
@@ -404,7 +170,7 @@ pub extern "C" fn sp_write_repl(
         logical,
         node,
     };
-    wrote(frame::write_repl(key, value, flag, stamp, out))
+    wrote(frame::write_repl(key, value, byte_of(flag), stamp, out))
 }
 
 #[no_mangle]
@@ -432,11 +198,15 @@ pub extern "C" fn sp_write_not_found(out: &mut [u8]) -> u32
 }
 
 #[no_mangle]
-pub extern "C" fn sp_write_err(number: u8, out: &mut [u8]) -> u32
+pub extern "C" fn sp_write_err(number: u32, out: &mut [u8]) -> u32
     ensures told { λ r. ⌜ r ≡ writeWord (err number) (now (out .entry)) ⌝ }
     ensures left { λ _. ⌜ now (out .exit) ≡ writeBytes (err number) (now (out .entry)) ⌝ }
 {
-    wrote(frame::write_err(number, out))
+    if 256 <= number {
+        // 255 is an ERR number; 0 is none, and is refused as this one is.
+        return wrote(frame::write_err(0, out));
+    }
+    wrote(frame::write_err(number as u8, out))
 }
 
 // ---- The store
@@ -488,13 +258,37 @@ pub extern "C" fn sp_store_lookup(store: &[u8], key: &[u8], place: &mut [u64]) -
     found(what)
 }
 
+// The i-th entry that a store holds, in key order, counted from 0, at the front of `fields`: as
+// `sp_frame_read` gives a REPL, with places in the store.
+#[no_mangle]
+pub extern "C" fn sp_store_entry(store: &[u8], i: usize, fields: &mut [u64]) -> u32
+    ensures told { λ r. ⌜ r ≡ packed (writeRefusal (listRefusal (entryAnswer (now (store .entry)) i)) (listWords (entryAnswer (now (store .entry)) i)) (now (fields .entry))) 0 ⌝ }
+    ensures left { λ _. ⌜ now (fields .exit) ≡ afterWrite (listRefusal (entryAnswer (now (store .entry)) i)) (listWords (entryAnswer (now (store .entry)) i)) (now (fields .entry)) ⌝ }
+{
+    let listed = store::entry_at(store, i);
+    match listed {
+        Listed::Refused(why) => refused(why),
+        Listed::Entry {
+            key_at,
+            key_len,
+            value_at,
+            value_len,
+            flag,
+            stamp,
+        } => {
+            let words = repl_words(key_at, key_len, value_at, value_len, flag, stamp);
+            put_front(fields, &words)
+        }
+    }
+}
+
 // Offers an entry.
 #[no_mangle]
 pub extern "C" fn sp_store_offer(
     store: &mut [u8],
     key: &[u8],
     value: &[u8],
-    flag: u8,
+    flag: u32,
     phys: u64,
     logical: u16,
     node: u8,
@@ -507,7 +301,7 @@ pub extern "C" fn sp_store_offer(
         logical,
         node,
     };
-    offered(store::offer(store, key, value, flag, stamp))
+    offered(store::offer(store, key, value, byte_of(flag), stamp))
 }
 
 // Offers each of the giver's entries to the receiver, all or none.

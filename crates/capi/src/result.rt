@@ -1,46 +1,25 @@
 // Results: a refusal in the upper 16 bits, a count or an answer in the lower.
+use capi_words::refused;
 use clock::ReceiveAnswer;
 use clock::SendAnswer;
-use entry::Refusal;
 use frame::Wrote;
 use node::Reply;
-use peers::PeerAnswer;
-use ring::Built;
-use ring::Ownership;
 use store::Created;
 use store::Looked;
 use store::Merged;
 use store::Offered;
 ghost use mathlib.Core.Path.{_≡_};
 ghost use Prim.Native.Nat.{_<_};
-ghost use Rattle.entry.specs.Refusal.{number};
 ghost use Rattle.clock.specs.Answer.{sendMeaning, receiveMeaning};
-ghost use Rattle.peers.specs.Event.{answerNumber};
-ghost use Rattle.ring.specs.Answer.{builtMeaning, ownershipMeaning};
 ghost use Rattle.frame.specs.Writing.{answerOf};
 ghost use Rattle.store.specs.Create.{createdNumber};
 ghost use Rattle.store.specs.Lookup.{findingOf};
 ghost use Rattle.store.specs.Answer.{answerOf as offerMeaning, mergeAnswerOf};
 ghost use Rattle.node.specs.Answer.{replyNumber};
-ghost use Rattle.capi.specs.Result.{packed, flag as flagOf};
+ghost use Rattle.capi_words.specs.Result.{packed};
 ghost use Rattle.capi.specs.Clock.{sendRefusal};
-ghost use Rattle.capi.specs.Ring.{refusalIn, givenIn, answerWord};
 ghost use Rattle.capi.specs.Frame.{bytesIn, wroteWord};
 ghost use Rattle.capi.specs.Store.{storeWord, lookRefusal, lookNumber};
-
-// A refusal alone.
-pub(crate) fn refused(why: Refusal) -> u32
-    ensures { λ r. ⌜ r ≡ packed (number why) 0 ⌝ }
-{
-    (why.number() as u32) * 65_536
-}
-
-// 1 for true and 0 for false.
-pub(crate) fn flag(holds: bool) -> u32
-    ensures { λ r. ⌜ r ≡ flagOf holds ⌝ }
-{
-    if holds { 1 } else { 0 }
-}
 
 pub(crate) fn sent(answer: SendAnswer) -> u32
     ensures { λ r. ⌜ r ≡ packed (sendRefusal (sendMeaning answer)) 0 ⌝ }
@@ -57,34 +36,6 @@ pub(crate) fn received(answer: ReceiveAnswer) -> u32
     match answer {
         ReceiveAnswer::Received => 0,
         ReceiveAnswer::Refused(why) => refused(why),
-    }
-}
-
-pub(crate) fn noted(answer: PeerAnswer) -> u32
-    ensures { λ r. ⌜ r ≡ packed (answerNumber answer) 0 ⌝ }
-{
-    match answer {
-        PeerAnswer::Done => 0,
-        PeerAnswer::Refused(why) => refused(why),
-    }
-}
-
-pub(crate) fn built(answer: Built) -> u32
-    requires { ⌜ givenIn (builtMeaning answer) < 65536 ⌝ }
-    ensures { λ r. ⌜ r ≡ answerWord (builtMeaning answer) ⌝ }
-{
-    match answer {
-        Built::Places(n) => n as u32,
-        Built::Refused(why) => refused(why),
-    }
-}
-
-pub(crate) fn walked(answer: Ownership) -> u32
-    ensures { λ r. ⌜ r ≡ packed (refusalIn (ownershipMeaning answer)) 0 ⌝ }
-{
-    match answer {
-        Ownership::Found(_) => 0,
-        Ownership::Refused(why) => refused(why),
     }
 }
 

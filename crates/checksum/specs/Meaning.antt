@@ -9,12 +9,12 @@ use Rattle.checksum.specs.Crc32c.{run, crc32c}
 use Rattle.checksum.specs.Table.{bytesSteps, crcTable, entryOf, runWith, crcWith}
 use Rattle.checksum.specs.Fmix32.{fmix32}
 
--- the table has sixteen rows of 256: row k has at i what i becomes after k + 1 bytes
+-- the table has sixteen rows of 256: row k has at i what i becomes after k + 1 bytes (R51)
 pub record TableRule : Type 0 where
   pub size : length crcTable ≡ 4096
   pub entry : (k i : ℕ) → k < 16 → i < 256 → entryOf crcTable k i ≡ bytesSteps (k + 1) i
 
--- by the table of CRC32C, the remainder and the checksum are those by bits
+-- by the table of CRC32C, the remainder and the checksum are those by bits (R51)
 abbrev pub RunWithTable : Type 0
 RunWithTable = (s : List ℕ) (c : ℕ) → Bytes s → c < 2 ^ 32 → runWith crcTable c s ≡ run c s
 

@@ -26,7 +26,7 @@ unfoldable pub rows : ℕ → ℕ → List ℕ
 rows k zero = []
 rows k (suc n) = row k ++ rows (suc k) n
 
-unfoldable pub crcTable : List ℕ
+unfoldable pub crcTable : List ℕ  -- (R51)
 crcTable = rows 0 16
 
 -- entry i of row k of a table
@@ -70,12 +70,12 @@ unfoldable pub crcWith : List ℕ → List ℕ → ℕ
 crcWith t s = bitXor (runWith t 0xFFFF_FFFF s) 0xFFFF_FFFF
 
 -- the remainder r that a table gives from a start on, whatever the table; with the table of CRC32C
--- it is the remainder by bits
+-- it is the remainder by bits (R51, R198)
 pub record PartWith (t : List ℕ) (start : ℕ) (s : List ℕ) (r : ℕ) : Type 0 where
   pub result : r ≡ runWith t start s
   pub by-bits : t ≡ crcTable → r ≡ run start s
 
--- the checksum r that a table gives, whatever the table; with the table of CRC32C it is CRC32C
+-- the checksum r that a table gives, whatever the table; with the table of CRC32C it is CRC32C (R51, R198)
 pub record ChecksumWith (t s : List ℕ) (r : ℕ) : Type 0 where
   pub result : r ≡ crcWith t s
   pub by-bits : t ≡ crcTable → r ≡ crc32c s

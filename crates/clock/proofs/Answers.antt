@@ -10,7 +10,7 @@ use Rattle.clock.specs.declared.Step.the-variants as step
 use Rattle.clock.specs.declared.SendAnswer.the-variants as send
 use Rattle.clock.specs.declared.ReceiveAnswer.the-variants as receive
 use Rattle.clock.specs.Clock.{next, refused, stampOf, sendStep, receiveStep}
-use Rattle.clock.specs.Answer.{stepMeaning, clockAfter, stamp, given, refusalOf, Sends, Receives}
+use Rattle.clock.specs.Answer.{stepMeaning, clockAfter, stamp, given, stepRefusalOf, Sends, Receives}
 
 module _ (c : Clock) (st : Step) where
   module _ (now : ℕ) (e : stepMeaning st ≡ sendStep c now) where
@@ -28,9 +28,9 @@ module _ (c : Clock) (st : Step) where
     pub receives-next : (d : Clock) → st ≡ step.Next d → Receives c p l now (record { clock = d; answer = receive.Received })
     receives-next d n =
         let f : next d ≡ receiveStep c p l now = sym (ap stepMeaning n) ∙ e in
-        record { clock-is = ap (clockAfter c) f; answer-is = ap refusalOf f }
+        record { clock-is = ap (clockAfter c) f; answer-is = ap stepRefusalOf f }
 
     pub receives-refused : (r : Refusal) → st ≡ step.Refused r → Receives c p l now (record { clock = c; answer = receive.Refused r })
     receives-refused r n =
         let f : refused (number r) ≡ receiveStep c p l now = sym (ap stepMeaning n) ∙ e in
-        record { clock-is = ap (clockAfter c) f; answer-is = ap refusalOf f }
+        record { clock-is = ap (clockAfter c) f; answer-is = ap stepRefusalOf f }

@@ -33,6 +33,7 @@ module _ (c b d : Clock) where
           above = stamp-order-by-field (stampOf c) _ .1 (go h);
           phys = low h;
           timely = t;
+          logical = omega (arith, leb-false 65535 l q);
           node = n;
           skew = s;
         } in
@@ -69,6 +70,7 @@ send-rises c d now e = elim (test (leb (2 ^ 48) now || leb (2 ^ 48) (c .phys))) 
               above = stamp-order-by-field (stampOf c) _ .1 (inl h);
               phys = omega arith;
               timely = t .0;
+              logical = omega arith;
               node = refl;
               skew = omega arith;
             } in

@@ -63,22 +63,22 @@ module _ (c : Clock) (p l now : ℕ) where
     not-ahead h = rw (le-ltb (now + 2000) p w, le-ltb (c .phys) p h)
 
 -- ---- every refusal is 8 or 9
-abbrev pub Numbered : Stepped → Type 0
-Numbered (next d) = Unit {0}
-Numbered (refused n) = (8 ≤ n) × (n ≤ 9)
+abbrev pub StepNumbered : Stepped → Type 0
+StepNumbered (next d) = Unit {0}
+StepNumbered (refused n) = (8 ≤ n) × (n ≤ 9)
 
-raise-numbered : (c : Clock) (p l : ℕ) → Numbered (raise c p l)
+raise-numbered : (c : Clock) (p l : ℕ) → StepNumbered (raise c p l)
 unfolding raise
 raise-numbered c p l = elim (test (leb 65535 l)) [ inl h ↦ rw h (omega arith) | inr h ↦ rw h tt ]
 
-pub send-numbered : (c : Clock) (now : ℕ) → Numbered (sendStep c now)
+pub send-numbered : (c : Clock) (now : ℕ) → StepNumbered (sendStep c now)
 unfolding sendStep
 send-numbered c now = elim (test (badTime now || badTime (c .phys))) [
   | inl h ↦ rw h (omega arith)
   | inr h ↦ rw h (elim (test (ltb (c .phys) now)) [ inl k ↦ rw k tt | inr k ↦ rw k (raise-numbered c (c .phys) (c .logical)) ])
 ]
 
-pub receive-numbered : (c : Clock) (p l now : ℕ) → Numbered (receiveStep c p l now)
+pub receive-numbered : (c : Clock) (p l now : ℕ) → StepNumbered (receiveStep c p l now)
 unfolding receiveStep receiveInRange
 receive-numbered c p l now = elim (test (badTime now || badTime (c .phys) || badTime p)) [
   | inl h ↦ rw h (omega arith)

@@ -18,12 +18,12 @@ abbrev pub stepMeaning : Step → Stepped
 stepMeaning (step.Next c) = next c
 stepMeaning (step.Refused r) = refused (number r)
 
--- the clock handed back: the next one, and after a refusal the one that came in
+-- the clock handed back: the next one, and after a refusal the one that came in (R29)
 abbrev pub clockAfter : Clock → Stepped → Clock
 clockAfter c (next d) = d
 clockAfter c (refused n) = c
 
--- what a send gives: the stamp of the next clock, or a refusal's number
+-- what a send gives: the stamp of the next clock, or a refusal's number (R95, R199)
 pub data Given : Type 0 where
   stamp : Stamp → Given
   refusal : ℕ → Given
@@ -36,21 +36,21 @@ abbrev pub sendMeaning : SendAnswer → Given
 sendMeaning (send.Stamped s) = stamp s
 sendMeaning (send.Refused r) = refusal (number r)
 
--- a receive gives no stamp: 0, or a refusal's number
-abbrev pub refusalOf : Stepped → ℕ
-refusalOf (next d) = 0
-refusalOf (refused n) = n
+-- a receive gives no stamp: 0, or a refusal's number (R199)
+abbrev pub stepRefusalOf : Stepped → ℕ
+stepRefusalOf (next d) = 0
+stepRefusalOf (refused n) = n
 
 abbrev pub receiveMeaning : ReceiveAnswer → ℕ
 receiveMeaning receive.Received = 0
 receiveMeaning (receive.Refused r) = number r
 
--- the promise of a send
+-- the promise of a send (R95, R197, R233)
 pub record Sends (c : Clock) (now : ℕ) (r : Sent) : Type 0 where
   pub clock-is : r .clock ≡ clockAfter c (sendStep c now)
   pub answer-is : sendMeaning (r .answer) ≡ given (sendStep c now)
 
--- the promise of a receive
+-- the promise of a receive (R197, R233)
 pub record Receives (c : Clock) (p l now : ℕ) (r : Receipt) : Type 0 where
   pub clock-is : r .clock ≡ clockAfter c (receiveStep c p l now)
-  pub answer-is : receiveMeaning (r .answer) ≡ refusalOf (receiveStep c p l now)
+  pub answer-is : receiveMeaning (r .answer) ≡ stepRefusalOf (receiveStep c p l now)

@@ -11,23 +11,23 @@ pub data Stepped : Type 0 where
   next : Clock → Stepped
   refused : ℕ → Stepped
 
--- a new clock starts at phys 0, logical 0
+-- a new clock starts at phys 0, logical 0 (R91, R92)
 abbrev pub freshClock : ℕ → Clock
 freshClock node = record { phys = 0; logical = 0; node = node; skew = 0 }
 
--- the stamp of a clock
+-- the stamp of a clock (R95)
 abbrev pub stampOf : Clock → Stamp
 stampOf c = record { phys = c .phys; logical = c .logical; node = c .node }
 
--- the clock at phys p with the logical count l raised by one: 8 if that is 65,535
+-- the clock at phys p with the logical count l raised by one: 8 if that is 65,535 (R15, R28, R217)
 unfoldable pub raise : Clock → ℕ → ℕ → Stepped
 raise c p l = cond (leb 65535 l) (refused 8) (next (record { phys = p; logical = l + 1; node = c .node; skew = c .skew }))
 
--- the skew count rises, and stops at 2^32 − 1
+-- the skew count rises, and stops at 2^32 − 1 (R99)
 unfoldable pub withSkew : Clock → Clock
 withSkew c = cond (leb 4294967295 (c .skew)) c (record { phys = c .phys; logical = c .logical; node = c .node; skew = c .skew + 1 })
 
--- send at now: if now > P the clock becomes (now, 0), else (P, L + 1)
+-- send at now: if now > P the clock becomes (now, 0), else (P, L + 1) (R33, R93, R94)
 unfoldable pub sendStep : Clock → ℕ → Stepped
 sendStep c now =
     cond (badTime now || badTime (c .phys)) (refused 9)
@@ -35,12 +35,12 @@ sendStep c now =
     (raise c (c .phys) (c .logical)))
 
 -- receive (p, l) at now: if p > now + 2000, the clock becomes (max(P, now), L + 1) and the skew
--- count rises; otherwise, if p > P, it becomes (p, l + 1); otherwise (P, L + 1)
+-- count rises; otherwise, if p > P, it becomes (p, l + 1); otherwise (P, L + 1) (R96 to R98)
 unfoldable pub receiveInRange : Clock → ℕ → ℕ → ℕ → Stepped
 receiveInRange c p l now =
     cond (ltb (now + 2000) p) (raise (withSkew c) (max (c .phys) now) (c .logical))
     (cond (ltb (c .phys) p) (raise c p l)
     (raise c (c .phys) (c .logical)))
 
-unfoldable pub receiveStep : Clock → ℕ → ℕ → ℕ → Stepped
+unfoldable pub receiveStep : Clock → ℕ → ℕ → ℕ → Stepped  -- (R26, R33)
 receiveStep c p l now = cond (badTime now || badTime (c .phys) || badTime p) (refused 9) (receiveInRange c p l now)

@@ -13,10 +13,12 @@ pub record Rises (c d : Clock) : Type 0 where
   -- P is not lowered, and stays a time
   pub phys : c .phys ≤ d .phys
   pub timely : d .phys < 2 ^ 48
+  -- the logical count fits its field
+  pub logical : d .logical < 2 ^ 16
   pub node : d .node ≡ c .node
   pub skew : c .skew ≤ d .skew
 
--- a send's stamp is above the clock it came from, and no send lowers P
+-- a send's stamp is above the clock it came from, and no send lowers P (R93 to R95); a receive raises it too (R96 to R98)
 abbrev pub SendRises : Type 0
 SendRises = (c d : Clock) (now : ℕ) → sendStep c now ≡ next d → Rises c d
 

@@ -9,7 +9,7 @@ use Rattle.entry.specs.declared.Stamp.{Stamp}
 use Rattle.entry.specs.Key.{badKey}
 use Rattle.entry.specs.Order.{stampBelow}
 
--- the flag is 0 for an active entry and 1 for a tombstone
+-- the flag is 0 for an active entry and 1 for a tombstone (R62, R116)
 pub record Entry : Type 0 where
   pub key : List ℕ
   pub value : List ℕ
@@ -19,15 +19,15 @@ pub record Entry : Type 0 where
 abbrev pub entryOf : List ℕ → List ℕ → ℕ → Stamp → Entry
 entryOf k v f s = record { key = k; value = v; flag = f; stamp = s }
 
--- a time that is 2^48 or more
+-- a time that is 2^48 or more (R4, R16, R26)
 abbrev pub badTime : ℕ → Bool
 badTime t = leb (2 ^ 48) t
 
--- a flag that is neither 0 nor 1, or a tombstone with a value
+-- a flag that is neither 0 nor 1, or a tombstone with a value (R27, R62, R63)
 unfoldable pub badFlag : Entry → Bool
 badFlag e = ltb 1 (e .flag) || (eqb (e .flag) 1 && ltb 0 (length (e .value)))
 
--- the first of an offer's checks 9, 1, 2 and 17 that an entry fails, or 0 if it is acceptable
+-- the first of an offer's checks 9, 1, 2 and 17 that an entry fails, or 0 if it is acceptable (R9, R35, R116)
 unfoldable pub refusalOf : Entry → ℕ
 refusalOf e =
     cond (badTime (e .stamp .phys)) 9
@@ -39,10 +39,10 @@ refusalOf e =
 abbrev pub Acceptable : Entry → Type 0
 Acceptable e = refusalOf e ≡ 0
 
--- the one definition of which of two entries of a key wins: the one with the stamp above
+-- the one definition of which of two entries of a key wins: the one with the stamp above (R118, R119)
 unfoldable pub beats : Entry → Entry → Bool
 beats e h = stampBelow (h .stamp) (e .stamp)
 
--- equal key and stamp mean equal entry
+-- equal key and stamp mean equal entry (R184)
 abbrev pub Consistent : Entry → Entry → Type 0
 Consistent d e = d .key ≡ e .key → d .stamp ≡ e .stamp → d ≡ e

@@ -6,10 +6,10 @@ use lib.Dec.{ltb, eqb}
 use Rattle.wire.specs.Order.{bytesBelow}
 use Rattle.entry.specs.declared.Stamp.{Stamp}
 
-abbrev pub least : Stamp
+abbrev pub least : Stamp  -- (R90, R230)
 least = record { phys = 0; logical = 0; node = 0 }
 
--- phys, then logical, then node
+-- phys, then logical, then node (R88, R89)
 unfoldable pub stampBelow : Stamp → Stamp → Bool
 stampBelow s t =
     cond (ltb (s .phys) (t .phys)) true
@@ -18,6 +18,6 @@ stampBelow s t =
     (cond (eqb (s .logical) (t .logical)) (ltb (s .node) (t .node)) false))
     false)
 
--- keys go by bytes, a prefix before the longer key
+-- keys go by bytes, a prefix before the longer key (R108)
 abbrev pub keyBelow : List ℕ → List ℕ → Bool
 keyBelow = bytesBelow

@@ -20,11 +20,11 @@ use Rattle.entry.specs.Entry.{Entry, entryOf, badFlag, refusalOf}
 use Rattle.entry.proofs.Accept.{key-short}
 use Rattle.frame.specs.Message.{Message, put, get, del, repl, ok, value, notFound, err, timeFault, keyFault, valueFault, argumentFault, messageRefusal}
 use Rattle.frame.specs.Message.{InRange}
-use Rattle.frame.specs.Layout.{counted, stampBytes, typeOf, body}
+use Rattle.frame.specs.Layout.{maxBody, counted, stampBytes, typeOf, body}
 use Rattle.frame.specs.declared.answer.Message.{Message as Located}
 use Rattle.frame.specs.declared.answer.Message.the-variants.{Repl}
 use Rattle.frame.specs.Reading.{message, messageIn, meaning, numberAt, klen, vlen, stampIn, endsAt, keyEnds, valueEnds, judgedAs, checked, readBody}
-use Rattle.frame.proofs.Fields.{field-between, number-between}
+use Rattle.frame.proofs.Fields.{field-inside, number-inside}
 use Rattle.frame.proofs.Envelopes.{Framed}
 
 -- ---- a message that is taken fails no check
@@ -120,7 +120,7 @@ length-repl e =
       length-counted 2 (e .value),
     )
 
-pub body-short : (m : Message) → Taken m → length (body m) ≤ 592
+pub body-short : (m : Message) → Taken m → length (body m) ≤ maxBody
 unfolding body keyFault valueFault
 body-short (put k v) t = omega (arith, length-put k v, key-short k (t .key), ltb-false 512 (length v) (t .value))
 body-short (get k) t = omega (arith, length-counted 1 k, key-short k (t .key))
@@ -136,11 +136,11 @@ module _ (s b : List ℕ) (f : Framed s b) where
   -- a part of the body
   field-in : (at w : ℕ) (x y z : List ℕ) → b ≡ x ++ (y ++ z) → length x + 4 ≡ at → length y ≡ w → field at w s ≡ y
   field-in at w x y z e h k =
-      field-between at w s (f .before ++ x) y (z ++ f .after) (f .is ∙ rw e (simp append-assoc)) (length-append (f .before) x ∙ omega (arith, f .head)) k
+      field-inside at w s (f .before ++ x) y (z ++ f .after) (f .is ∙ rw e (simp append-assoc)) (length-append (f .before) x ∙ omega (arith, f .head)) k
 
   number-in : (at w n : ℕ) (x z : List ℕ) → b ≡ x ++ (be w n ++ z) → length x + 4 ≡ at → n < 256 ^ w → numberAt at w s ≡ n
   number-in at w n x z e h k =
-      number-between at w n s (f .before ++ x) (z ++ f .after) (f .is ∙ rw e (simp append-assoc)) (length-append (f .before) x ∙ omega (arith, f .head)) k
+      number-inside at w n s (f .before ++ x) (z ++ f .after) (f .is ∙ rw e (simp append-assoc)) (length-append (f .before) x ∙ omega (arith, f .head)) k
 
   ends-in : (end : ℕ) → length b + 4 ≡ end → endsAt end s ≡ true
   unfolding endsAt

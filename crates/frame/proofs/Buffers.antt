@@ -23,7 +23,7 @@ use Rattle.frame.specs.declared.answer.Wrote.{Wrote}
 use Rattle.frame.specs.declared.answer.Wrote.the-variants.{Bytes, Refused}
 use Rattle.frame.specs.Layout.{envelope}
 use Rattle.frame.specs.Writing.{answerOf, writeRefusal, writeAnswer, afterWrite, WritesFrame, Sealed}
-use Rattle.frame.proofs.Fields.{field-between}
+use Rattle.frame.proofs.Fields.{field-inside}
 use Rattle.frame.proofs.Envelopes.{length-envelope}
 use Rattle.entry.proofs.Numbers.{number-not-0}
 
@@ -82,7 +82,7 @@ module _ (t n : ℕ) (s₀ s : List ℕ) (room : n + 8 ≤ length s₀) (w : Wri
       let e : n + 4 - 2 ≡ n + 2 = omega arith in
       let k = length-field 4 n s₀ (omega arith) in
       ap (λ (i : ℕ). crc32c (take i (drop 2 s))) e
-      ∙ ap crc32c (field-between 2 (n + 2) s (be 2 (n + 6)) (t ∷ 0 ∷ placed) (drop (4 + n) s₀) (body-stays .is ∙ simp append-assoc) (length-be 2 (n + 6))
+      ∙ ap crc32c (field-inside 2 (n + 2) s (be 2 (n + 6)) (t ∷ 0 ∷ placed) (drop (4 + n) s₀) (body-stays .is ∙ simp append-assoc) (length-be 2 (n + 6))
       (omega arith))
 
   pub frame-sealed : (sum : ℕ) (ys : List ℕ) → sum ≡ crc32c (take (n + 4 - 2) (drop 2 s)) → ys ≡ be (length (midOf (n + 4) (n + 8 - (n + 4)) s)) sum
@@ -120,7 +120,7 @@ sealed-written n t k b out s after r z h room w sealed =
     let l = length-envelope t b in
     let m : k + 8 ≡ length (envelope t b) = omega arith in
     let is : s ≡ take 4 out ++ (b ++ drop (k + 4) out) = w .is ∙ append-assoc (take 4 out) b (drop (k + 4) out) in
-    let body : field 4 k s ≡ b = field-between 4 k s (take 4 out) b (drop (k + 4) out) is (length-take-le 4 out (omega arith)) h in
+    let body : field 4 k s ≡ b = field-inside 4 k s (take 4 out) b (drop (k + 4) out) is (length-take-le 4 out (omega arith)) h in
     let q : k + 8 ≡ k + 4 + 4 = omega arith in
     let past : drop (k + 4) s ≡ drop (k + 4) out = ap (drop (k + 4)) (w .is) ∙ drop-at (take 4 out ++ b) (drop (k + 4) out) (k + 4) (w .long) in
     let rest : drop (k + 8) s ≡ drop (k + 8) out = rw (q, ← drop-drop 4 (k + 4) s, ← drop-drop 4 (k + 4) out, past) in

@@ -1,5 +1,5 @@
 -- The reader's tests: what each shows of the frame or of the body.
-use mathlib.Core.Path.{_≡_, sym, ap, _∙_}
+use mathlib.Core.Path.{_≡_, refl, sym, ap, _∙_}
 use mathlib.Core.Logic.{inl, inr}
 use mathlib.Core.Bool.{true, false, not}
 use mathlib.Core.List.{List, []}
@@ -11,13 +11,15 @@ use borrow.Author.Tests.{lt-ltb, le-ltb, le-leb, eq-eqb, ne-eqb, ltb-true, ltb-f
 use Rattle.wire.specs.Number.{be, num, Bytes}
 use Rattle.wire.specs.Fill.{field}
 use Rattle.wire.proofs.Number.{num-be, num-whole}
+use Rattle.wire.proofs.Fields.{field-between}
 use Rattle.wire.proofs.Order.{sameBytes-refl}
 use Rattle.wire.proofs.Tests.{test, false-of}
 use Rattle.checksum.specs.Crc32c.{crc32c}
 use Rattle.entry.specs.Order.{least}
 use Rattle.entry.specs.Entry.{entryOf, badFlag}
+use Rattle.frame.specs.Layout.{maxFrame, maxLen}
 use Rattle.frame.specs.Reading.{numberAt, lengthHolds, checksumHolds, flagsHold, envelopeHolds, vlen, endsAt, valueEnds}
-use Rattle.frame.proofs.Fields.{field-slice, be-number}
+use Rattle.frame.proofs.Fields.{be-number}
 use Rattle.frame.proofs.Envelopes.{Holding, holding}
 
 -- two tests that hold together
@@ -31,14 +33,14 @@ eqb-both a b c d f g = elim (test (eqb a b)) [
 pub number-part : (at w : ℕ) (s : List ℕ) → w ≤ 8 → num (take 8 (take (at + w - at) (drop at s))) ≡ numberAt at w s
 unfolding numberAt field
 number-part at w s h =
-    ap (λ (r : List ℕ). num (take 8 r)) (field-slice at w s) ∙ num-whole (field at w s) (omega (arith, length-take w (drop at s)))
+    ap (λ (r : List ℕ). num (take 8 r)) (field-between at w (at + w) s refl) ∙ num-whole (field at w s) (omega (arith, length-take w (drop at s)))
 
 -- ---- the envelope
 pub fails : (s : List ℕ) → (Holding s → ⊥) → false ≡ envelopeHolds s
 fails s f = sym (false-of (envelopeHolds s) (λ e. f (holding s e)))
 
 -- once LEN and FLAGS hold, the checksum decides
-module _ (s : List ℕ) (bs : Bytes s) (low : 8 ≤ length s) (high : length s ≤ 600) (len : numberAt 0 2 s ≡ length s - 2) (flags : numberAt 3 1 s ≡ 0)
+module _ (s : List ℕ) (bs : Bytes s) (low : 8 ≤ length s) (high : length s ≤ maxFrame) (len : numberAt 0 2 s ≡ length s - 2) (flags : numberAt 3 1 s ≡ 0)
     (x sum : ℕ) (xe : x ≡ numberAt (length s - 4) 4 s) (se : sum ≡ crc32c (take (length s - 4 - 2) (drop 2 s))) (fits : sum < 2 ^ 32) where
   sum-covers : sum ≡ crc32c (field 2 (length s - 6) s)
   unfolding field
@@ -55,7 +57,7 @@ module _ (s : List ℕ) (bs : Bytes s) (low : 8 ≤ length s) (high : length s �
         flags,
         len,
         le-leb 6 (length s - 2) (omega arith),
-        le-leb (length s - 2) 598 (omega arith),
+        le-leb (length s - 2) maxLen (omega arith),
         eq-eqb (length s) (length s - 2 + 2) (omega arith),
       )
 

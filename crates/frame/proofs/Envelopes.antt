@@ -10,12 +10,13 @@ use Rattle.wire.specs.Number.{be, num, numFrom, Bytes}
 use Rattle.wire.specs.Fill.{field}
 use Rattle.wire.proofs.Number.{length-be}
 use Rattle.wire.proofs.Fill.{length-field}
+use Rattle.wire.proofs.Fields.{field-all}
 use Rattle.wire.proofs.Order.{sameBytes-eq, sameBytes-refl}
 use Rattle.wire.proofs.Tests.{and-true}
 use Rattle.checksum.specs.Crc32c.{crc32c}
-use Rattle.frame.specs.Layout.{envelope}
+use Rattle.frame.specs.Layout.{maxLen, maxBody, envelope}
 use Rattle.frame.specs.Reading.{numberAt, lengthHolds, checksumHolds, flagsHold, envelopeHolds, typeIn, readBody, readAnswer}
-use Rattle.frame.proofs.Fields.{field-between, field-join, field-all, field-byte, number-between, be-number}
+use Rattle.frame.proofs.Fields.{field-inside, field-join, field-byte, number-inside, be-number}
 
 pub length-envelope : (t : ℕ) (b : List ℕ) → length (envelope t b) ≡ length b + 8
 unfolding envelope
@@ -40,12 +41,12 @@ module _ (t : ℕ) (b : List ℕ) where
 
   type-back : typeIn (envelope t b) ≡ t
   unfolding typeIn numberAt envelope num numFrom
-  type-back = ap num (field-between 2 1 (envelope t b) len (t ∷ []) (0 ∷ b ++ sum) (append-assoc len (t ∷ 0 ∷ b) sum) (length-be 2 _) refl) ∙ omega arith
+  type-back = ap num (field-inside 2 1 (envelope t b) len (t ∷ []) (0 ∷ b ++ sum) (append-assoc len (t ∷ 0 ∷ b) sum) (length-be 2 _) refl) ∙ omega arith
 
   flags-back : numberAt 3 1 (envelope t b) ≡ 0
   unfolding numberAt envelope num numFrom
   flags-back =
-      ap num (field-between 3 1 (envelope t b) (len ++ (t ∷ [])) (0 ∷ []) (b ++ sum) (simp append-assoc)
+      ap num (field-inside 3 1 (envelope t b) (len ++ (t ∷ [])) (0 ∷ []) (b ++ sum) (simp append-assoc)
       (length-append len (t ∷ []) ∙ omega (arith, length-be 2 (length b + 6))) refl)
 
   checksum-back : checksumHolds (envelope t b) ≡ true
@@ -55,19 +56,19 @@ module _ (t : ℕ) (b : List ℕ) where
       let a : length (envelope t b) - 4 ≡ length b + 4 = omega arith in
       let w : length (envelope t b) - 6 ≡ length b + 2 = omega arith in
       let covered : field 2 (length b + 2) (envelope t b) ≡ t ∷ 0 ∷ b =
-      field-between 2 (length b + 2) (envelope t b) len (t ∷ 0 ∷ b) sum (append-assoc len (t ∷ 0 ∷ b) sum) (length-be 2 _) (omega arith) in
+      field-inside 2 (length b + 2) (envelope t b) len (t ∷ 0 ∷ b) sum (append-assoc len (t ∷ 0 ∷ b) sum) (length-be 2 _) (omega arith) in
       let last : field (length b + 4) 4 (envelope t b) ≡ sum =
-      field-between (length b + 4) 4 (envelope t b) (len ++ (t ∷ 0 ∷ b)) sum [] (ap (λ (r : List ℕ). len ++ (t ∷ 0 ∷ b) ++ r) (sym (append-nil sum)))
+      field-inside (length b + 4) 4 (envelope t b) (len ++ (t ∷ 0 ∷ b)) sum [] (ap (λ (r : List ℕ). len ++ (t ∷ 0 ∷ b) ++ r) (sym (append-nil sum)))
       (length-append len (t ∷ 0 ∷ b) ∙ omega (arith, length-be 2 (length b + 6))) (length-be 4 _) in
       rw (a, w, covered, last) (sameBytes-refl sum)
 
-  length-back : length b ≤ 592 → lengthHolds (envelope t b) ≡ true
+  length-back : length b ≤ maxBody → lengthHolds (envelope t b) ≡ true
   unfolding lengthHolds envelope
   length-back h =
       let l : numberAt 0 2 (envelope t b) ≡ length b + 6 =
-      number-between 0 2 (length b + 6) (envelope t b) [] ((t ∷ 0 ∷ b) ++ sum) (append-assoc len (t ∷ 0 ∷ b) sum) refl (omega arith) in
+      number-inside 0 2 (length b + 6) (envelope t b) [] ((t ∷ 0 ∷ b) ++ sum) (append-assoc len (t ∷ 0 ∷ b) sum) refl (omega arith) in
       let n = length-envelope t b in
-      rw (l, le-leb 6 (length b + 6) (omega arith), le-leb (length b + 6) 598 (omega arith), eq-eqb (length (envelope t b)) (length b + 6 + 2) (omega arith))
+      rw (l, le-leb 6 (length b + 6) (omega arith), le-leb (length b + 6) maxLen (omega arith), eq-eqb (length (envelope t b)) (length b + 6 + 2) (omega arith))
 
   pub framed : Framed (envelope t b) b
   unfolding envelope
@@ -80,14 +81,14 @@ module _ (t : ℕ) (b : List ℕ) where
   }
 
   -- a frame is read by the type that it was given
-  pub envelope-reads : length b ≤ 592 → readAnswer (envelope t b) ≡ readBody t (envelope t b)
+  pub envelope-reads : length b ≤ maxBody → readAnswer (envelope t b) ≡ readBody t (envelope t b)
   unfolding readAnswer envelopeHolds flagsHold
   envelope-reads h = rw (length-back h, checksum-back, flags-back, type-back)
 
 -- ---- an envelope that holds
 pub record Holding (s : List ℕ) : Type 0 where
   pub least : 6 ≤ numberAt 0 2 s
-  pub most : numberAt 0 2 s ≤ 598
+  pub most : numberAt 0 2 s ≤ maxLen
   pub whole : length s ≡ numberAt 0 2 s + 2
   pub checksum : field (length s - 4) 4 s ≡ be 4 (crc32c (field 2 (length s - 6) s))
   pub flags : numberAt 3 1 s ≡ 0
@@ -101,7 +102,7 @@ holding s h =
     let b = and-true _ _ (l .0) in
     record {
       least = leb-true 6 (numberAt 0 2 s) (b .0);
-      most = leb-true (numberAt 0 2 s) 598 (b .1);
+      most = leb-true (numberAt 0 2 s) maxLen (b .1);
       whole = eqb-true (length s) (numberAt 0 2 s + 2) (l .1);
       checksum = sameBytes-eq _ _ (f .1);
       flags = eqb-true (numberAt 3 1 s) 0 (e .1);

@@ -1,10 +1,9 @@
 -- Laws of the fields of a frame and of the numbers in them.
 use mathlib.Core.Path.{_≡_, sym, ap, _∙_}
 use mathlib.Core.List.{List, [], _∷_, _++_}
-use Prim.Native.Nat.{ℕ, _+_, _-_, _^_, _≤_, _<_}
-use native.Mathlib.Omega.{arith}
+use Prim.Native.Nat.{ℕ, _+_, _^_, _≤_, _<_}
 use native.Mathlib.Nat.{add-zero}
-use lib.ListN.{length, take, drop, getD}
+use lib.ListN.{length, take, getD}
 use lib.Seq.{drop-cons}
 use Rattle.wire.specs.Number.{be, num, Bytes}
 use Rattle.wire.specs.Fill.{field}
@@ -17,22 +16,15 @@ use Rattle.frame.specs.Reading.{numberAt}
 pub field-join : (a w c v : ℕ) (s : List ℕ) → a + w ≡ c → field a w s ++ field c v s ≡ field a (w + v) s
 field-join a w c v s e = ap (λ (i : ℕ). field a w s ++ field i v s) (sym e) ∙ sym (fields.field-split a w v s)
 
-pub field-all : (n : ℕ) (s : List ℕ) → length s ≡ n → field 0 n s ≡ s
-field-all n s h = fields.field-all n s (omega arith)
-
--- a part of a slice is a field
-pub field-slice : (a w : ℕ) (s : List ℕ) → take (a + w - a) (drop a s) ≡ field a w s
-field-slice a w s = fields.field-between a w (a + w) s (omega arith)
-
--- a field between other parts
-pub field-between : (a w : ℕ) (s p x q : List ℕ) → s ≡ p ++ (x ++ q) → length p ≡ a → length x ≡ w → field a w s ≡ x
-field-between a w s p x q e h k =
+-- a field with other parts before and after it
+pub field-inside : (a w : ℕ) (s p x q : List ℕ) → s ≡ p ++ (x ++ q) → length p ≡ a → length x ≡ w → field a w s ≡ x
+field-inside a w s p x q e h k =
     ap (field a w) e ∙ ap (λ (i : ℕ). field i w (p ++ (x ++ q))) (sym (add-zero a)) ∙ field-past a 0 w p (x ++ q) h ∙ field-here w x q k
 
 -- ---- numbers in fields
-pub number-between : (a w n : ℕ) (s p q : List ℕ) → s ≡ p ++ (be w n ++ q) → length p ≡ a → n < 256 ^ w → numberAt a w s ≡ n
+pub number-inside : (a w n : ℕ) (s p q : List ℕ) → s ≡ p ++ (be w n ++ q) → length p ≡ a → n < 256 ^ w → numberAt a w s ≡ n
 unfolding numberAt
-number-between a w n s p q e h k = ap num (field-between a w s p (be w n) q e h (length-be w n)) ∙ num-be w n k
+number-inside a w n s p q e h k = ap num (field-inside a w s p (be w n) q e h (length-be w n)) ∙ num-be w n k
 
 pub number-byte : (at : ℕ) (s : List ℕ) → at < length s → numberAt at 1 s ≡ getD s at 0
 unfolding numberAt

@@ -10,7 +10,7 @@ use Rattle.frame.specs.declared.answer.Read.the-variants.{Message as Sai
 use Rattle.frame.specs.declared.answer.Wrote.{Wrote}
 use Rattle.frame.specs.declared.answer.Wrote.the-variants.{Bytes as BytesWrote}
 use Rattle.frame.specs.Message.{Message, messageRefusal, InRange}
-use Rattle.frame.specs.Layout.{typeOf, frameOf}
+use Rattle.frame.specs.Layout.{maxFrame, typeOf, frameOf}
 use Rattle.frame.specs.Reading.{message, refused, typeIn, readAnswer, readFrame}
 use Rattle.frame.specs.Writing.{Writes}
 
@@ -34,33 +34,33 @@ ReadLiesWithin = (s : List ℕ) (m : Located) → readAnswer s ≡ Said m → Wi
 abbrev pub ReadHasType : Type 0
 ReadHasType = (s : List ℕ) (m : Message) → readFrame s ≡ message m → typeOf m ≡ typeIn s
 
--- a frame that is no message is refused with 1, 2 or 3
+-- a frame that is no message is refused with 1, 2 or 3 (R37)
 abbrev pub ReadRefusals : Type 0
 ReadRefusals = (s : List ℕ) (n : ℕ) → readFrame s ≡ refused n → (1 ≤ n) × (n ≤ 3)
 
--- what was written reads back as the same message, for every message that a writer takes
+-- what was written reads back as the same message, for every message that a writer takes (R179)
 abbrev pub WrittenReadsBack : Type 0
 WrittenReadsBack = (m : Message) → messageRefusal m ≡ 0 → InRange m → readFrame (frameOf m) ≡ message m
 
--- what was read, written again, is the same bytes
+-- what was read, written again, is the same bytes (R180)
 abbrev pub ReadWritesBack : Type 0
 ReadWritesBack = (s : List ℕ) (m : Message) → Bytes s → readFrame s ≡ message m → frameOf m ≡ s
 
--- what was read is a message that a writer takes, with its numbers in the ranges of their fields
+-- what was read is a message that a writer takes, with its numbers in the ranges of their fields (R180)
 abbrev pub ReadIsTaken : Type 0
 ReadIsTaken = (s : List ℕ) (m : Message) → Bytes s → readFrame s ≡ message m → (messageRefusal m ≡ 0) × InRange m
 
 -- ---- writing
--- a frame that a writer makes is at most 600 bytes long
+-- a frame that a writer makes is no longer than the longest (R49)
 abbrev pub FrameAtMost600 : Type 0
-FrameAtMost600 = (m : Message) → messageRefusal m ≡ 0 → length (frameOf m) ≤ 600
+FrameAtMost600 = (m : Message) → messageRefusal m ≡ 0 → length (frameOf m) ≤ maxFrame
 
--- a message that a writer takes is written whole to the front of any buffer with room for its frame
+-- a message that a writer takes is written whole to the front of any buffer with room for its frame (R68)
 abbrev pub WrittenWhole : Type 0
 WrittenWhole = (m : Message) (out : List ℕ) (r : Wrote) (after : List ℕ) → messageRefusal m ≡ 0 → length (frameOf m) ≤ length out → Writes m out r after
     → (r ≡ BytesWrote (length (frameOf m))) × (after ≡ frameOf m ++ drop (length (frameOf m)) out)
 
 -- what a writer leaves at the front of a buffer, as many bytes as it says, reads back as the
--- message
+-- message (R179)
 abbrev pub FrontReadsBack : Type 0
 FrontReadsBack = (m : Message) (out : List ℕ) (n : ℕ) (after : List ℕ) → InRange m → Writes m out (BytesWrote n) after → readFrame (take n after) ≡ message m

@@ -7,7 +7,7 @@ use lib.Dec.{ltb, eqb}
 use Rattle.entry.specs.Key.{badKey}
 use Rattle.entry.specs.Entry.{Entry, badTime, badFlag}
 
--- put has a key and a value, get and del a key, repl an entry, value a value, err a refusal number
+-- put has a key and a value, get and del a key, repl an entry, value a value, err a refusal number (R53 to R60)
 pub data Message : Type 0 where
   put : List ℕ → List ℕ → Message
   get : List ℕ → Message
@@ -39,7 +39,7 @@ valueOf (value v) = v
 valueOf notFound = []
 valueOf (err n) = []
 
--- a time is out of range (9)
+-- a time is out of range: 9 (R16, R26)
 unfoldable pub timeFault : Message → Bool
 timeFault (put k v) = false
 timeFault (get k) = false
@@ -50,7 +50,7 @@ timeFault (value v) = false
 timeFault notFound = false
 timeFault (err n) = false
 
--- the key is refused (1)
+-- the key is refused: 1 (R66)
 unfoldable pub keyFault : Message → Bool
 keyFault (put k v) = badKey k
 keyFault (get k) = badKey k
@@ -61,11 +61,11 @@ keyFault (value v) = false
 keyFault notFound = false
 keyFault (err n) = false
 
--- a value is over 512 bytes
+-- a value is over 512 bytes (R9, R226)
 abbrev pub tooLarge : List ℕ → Bool
 tooLarge v = ltb 512 (length v)
 
--- the value is refused (2)
+-- the value is refused: 2 (R9, R66)
 unfoldable pub valueFault : Message → Bool
 valueFault (put k v) = tooLarge v
 valueFault (get k) = false
@@ -76,7 +76,7 @@ valueFault (value v) = tooLarge v
 valueFault notFound = false
 valueFault (err n) = false
 
--- a flag or an ERR number is out of its range, or a tombstone has a value (17); ERR numbers are 1 to 255
+-- a flag or an ERR number is out of its range, or a tombstone has a value: 17; ERR numbers are 1 to 255 (R27, R63, R64)
 unfoldable pub argumentFault : Message → Bool
 argumentFault (put k v) = false
 argumentFault (get k) = false
@@ -87,7 +87,7 @@ argumentFault (value v) = false
 argumentFault notFound = false
 argumentFault (err n) = eqb n 0 || ltb 255 n
 
--- the first of 9, 1, 2 and 17 that a message to be written fails, or 0 if it fails none
+-- the first of 9, 1, 2 and 17 that a message to be written fails, or 0 if it fails none (R36)
 unfoldable pub messageRefusal : Message → ℕ
 messageRefusal m =
     cond (timeFault m) 9
@@ -96,7 +96,7 @@ messageRefusal m =
     (cond (argumentFault m) 17
     0)))
 
--- the numbers that no check bounds are in the ranges of their fields
+-- the numbers that no check bounds are in the ranges of their fields (R5, R6)
 abbrev pub InRange : Message → Type 0
 InRange (put k v) = Unit {0}
 InRange (get k) = Unit {0}

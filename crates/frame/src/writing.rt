@@ -15,7 +15,7 @@ ghost use lib.ListN.{length};
 ghost use Rattle.entry.specs.Order.{least};
 ghost use Rattle.entry.specs.Entry.{entryOf, refusalOf};
 ghost use Rattle.frame.specs.Message.{put, repl};
-ghost use Rattle.frame.specs.Layout.{counted, keyBytes, stampBytes, body, envelope};
+ghost use Rattle.frame.specs.Layout.{maxBody, counted, keyBytes, stampBytes, body, envelope};
 ghost use Rattle.frame.specs.Writing.{WritesFrame, Sealed};
 
 // Fills `out` with the length of `s`, in `width` bytes, and `s`.
@@ -64,7 +64,7 @@ pub(crate) fn put_entry(out: &mut [u8], key: &[u8], value: &[u8], flag: u8, stam
 
 // Puts the body of n bytes at offset 4 into its frame.
 pub(crate) fn seal(out: &mut [u8], kind: u8, n: usize) -> Wrote
-    requires { ⌜ (n ≤ 592) × (n + 8 ≤ length (now out)) ⌝ }
+    requires { ⌜ (n ≤ maxBody) × (n + 8 ≤ length (now out)) ⌝ }
     ensures { λ r. ⌜ Sealed kind n (now (out .entry)) r (now (out .exit)) ⌝ }
 {
     let end = n + 4;

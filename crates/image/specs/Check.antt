@@ -11,11 +11,11 @@ use Rattle.wire.specs.Order.{sameBytes}
 use Rattle.image.specs.Layout.{headerWidth, klenAt, vlenAt, keyWidth, valueWidth, slotWidth, mostSlots, slotStart}
 use Rattle.image.specs.Image.{header, slotEntry, slotBytes, slotsOf, usedOf, acceptable}
 
--- a slot is the slot of its entry: its zero fill and its checksum are right
+-- a slot is the slot of its entry: its zero fill and its checksum are right (R105, R106)
 unfoldable pub sealed : List ℕ → Bool
 sealed s = sameBytes s (slotBytes (slotEntry s))
 
--- a slot's entry is acceptable, and the slot is that entry's
+-- a slot's entry is acceptable, and the slot is that entry's (R111 to R113)
 unfoldable pub slotSound : List ℕ → Bool
 slotSound s = acceptable (slotEntry s) && sealed s
 
@@ -37,7 +37,7 @@ pub record Lengths (s : List ℕ) (klen vlen : ℕ) : Type 0 where
   pub key-fits : klen ≤ keyWidth
   pub value-fits : vlen ≤ valueWidth
 
--- C is 1 to 100, U at most C, the length is exact, and the header is right
+-- C is 1 to 100, U at most C, the length is exact, and the header is right (R101 to R103, R110)
 unfoldable pub shaped : List ℕ → Bool
 shaped s =
     leb 1 (slotsOf s) && leb (slotsOf s) mostSlots && leb (usedOf s) (slotsOf s)

@@ -17,36 +17,36 @@ use Rattle.image.specs.Layout.{slotWidth, mostSlots}
 
 -- ---- from the entries to the bytes
 
--- slots C (2), used U (2), slot width (2), offset of first slot (2), eight zero bytes
+-- slots C (2), used U (2), slot width (2), offset of first slot (2), eight zero bytes (R103)
 unfoldable pub header : ℕ → ℕ → List ℕ
 header c u = be 2 c ++ be 2 u ++ be 2 slotWidth ++ be 2 headerWidth ++ zeros 8
 
 -- a slot's bytes before the key: klen(1), flag(1), vlen(2), phys(6), logical(2), node(1), three
--- zeros
+-- zeros (R104)
 unfoldable pub slotHead : Entry → List ℕ
 slotHead e =
     be 1 (length (e .key)) ++ be 1 (e .flag) ++ be 2 (length (e .value))
     ++ be 6 (e .stamp .phys) ++ be 2 (e .stamp .logical) ++ be 1 (e .stamp .node) ++ zeros 3
 
--- a slot's bytes before the checksum: key in 64 bytes, value in 512 bytes, zeros past klen and vlen
+-- a slot's bytes before the checksum: key in 64 bytes, value in 512 bytes, zeros past klen and vlen (R104, R106)
 unfoldable pub slotBody : Entry → List ℕ
 slotBody e = slotHead e ++ padded keyWidth (e .key) ++ padded valueWidth (e .value)
 
--- a slot, with the CRC32C(4) of the bytes before it
+-- a slot, with the CRC32C(4) of the bytes before it (R104, R105)
 unfoldable pub slotBytes : Entry → List ℕ
 slotBytes e = slotBody e ++ be 4 (crc32c (slotBody e))
 
-unfoldable pub slots : List Entry → List ℕ
+unfoldable pub slots : List Entry → List ℕ  -- (R107)
 slots [] = []
 slots (e ∷ es) = slotBytes e ++ slots es
 
--- used slots come first; unused slots are all zero
+-- used slots come first; unused slots are all zero (R102, R107, R109)
 unfoldable pub image : ℕ → List Entry → List ℕ
 image c es = header c (length es) ++ slots es ++ zeros (slotWidth * (c - length es))
 
 -- ---- from the bytes to the entries
 
--- the key that a slot's bytes hold
+-- the key that a slot's bytes hold (R104)
 unfoldable pub keyIn : List ℕ → List ℕ
 keyIn s = take (num (field klenAt 1 s)) (field keyAt keyWidth s)
 
@@ -66,37 +66,37 @@ unfoldable pub entriesIn : ℕ → List ℕ → List Entry
 entriesIn zero s = []
 entriesIn (suc n) s = slotEntry (take slotWidth s) ∷ entriesIn n (drop slotWidth s)
 
-unfoldable pub slotsOf : List ℕ → ℕ
+unfoldable pub slotsOf : List ℕ → ℕ  -- (R101, R103)
 slotsOf s = num (field slotsAt 2 s)
 
-unfoldable pub usedOf : List ℕ → ℕ
+unfoldable pub usedOf : List ℕ → ℕ  -- (R103, R110)
 usedOf s = num (field usedAt 2 s)
 
--- the entries of the used slots
+-- the entries of the used slots (R107, R193)
 unfoldable pub entriesOf : List ℕ → List Entry
 entriesOf s = entriesIn (usedOf s) (drop headerWidth s)
 
 -- ---- soundness
 
-unfoldable pub acceptable : Entry → Bool
+unfoldable pub acceptable : Entry → Bool  -- (R111 to R113)
 acceptable e = eqb (refusalOf e) 0
 
-unfoldable pub allAcceptable : List Entry → Bool
+unfoldable pub allAcceptable : List Entry → Bool  -- (R111 to R113)
 allAcceptable [] = true
 allAcceptable (e ∷ es) = acceptable e && allAcceptable es
 
--- a key below that of the first entry, if there is one
+-- a key below that of the first entry, if there is one (R108)
 unfoldable pub belowFirst : List ℕ → List Entry → Bool
 belowFirst k [] = true
 belowFirst k (e ∷ es) = keyBelow k (e .key)
 
--- keys strictly ascending
+-- keys strictly ascending (R108)
 unfoldable pub ascending : List Entry → Bool
 ascending [] = true
 ascending (e ∷ es) = belowFirst (e .key) es && ascending es
 
 -- C is 1 to 100, U at most C, every entry acceptable, keys strictly ascending, and the bytes are
--- the image of just those entries
+-- the image of just those entries (R114)
 unfoldable pub sound : List ℕ → Bool
 sound s =
     leb 1 (slotsOf s) && leb (slotsOf s) mostSlots && leb (usedOf s) (slotsOf s)

@@ -2,7 +2,7 @@
 use Prim.Native.Nat.{ℕ, _+_, _*_}
 
 -- ---- the header
--- slots C (2), used U (2), slot width (2), offset of the first slot (2), eight zero bytes
+-- slots C (2), used U (2), slot width (2), offset of the first slot (2), eight zero bytes (R103)
 abbrev pub slotsAt : ℕ
 slotsAt = 0
 
@@ -23,7 +23,7 @@ headerWidth = 16
 
 -- ---- a slot
 -- klen(1), flag(1), vlen(2), phys(6), logical(2), node(1), three zeros, key in 64 bytes, value in
--- 512 bytes, CRC32C(4)
+-- 512 bytes, CRC32C(4) (R104)
 abbrev pub klenAt : ℕ
 klenAt = 0
 
@@ -57,7 +57,7 @@ valueAt = keyAt + keyWidth
 abbrev pub valueWidth : ℕ
 valueWidth = 512
 
--- the bytes that the checksum covers, and so where it stands
+-- the bytes that the checksum covers, and so where it stands (R104, R105)
 abbrev pub bodyWidth : ℕ
 bodyWidth = valueAt + valueWidth
 
@@ -65,10 +65,10 @@ abbrev pub slotWidth : ℕ
 slotWidth = bodyWidth + 4
 
 -- ---- the store
-abbrev pub mostSlots : ℕ
+abbrev pub mostSlots : ℕ  -- (R101)
 mostSlots = 100
 
--- where slot i starts, and where a store of i slots ends
+-- where slot i starts, and where a store of i slots ends (R102)
 abbrev pub slotStart : ℕ → ℕ
 slotStart i = headerWidth + slotWidth * i
 

@@ -21,7 +21,7 @@ abbrev pub AllFit : List Entry → Type 0
 AllFit [] = Unit {0}
 AllFit (e ∷ es) = Fit e × AllFit es
 
--- what a store is that passes the test of soundness
+-- what a store is that passes the test of soundness (R114)
 pub record Sound (s : List ℕ) : Type 0 where
   pub some : 1 ≤ slotsOf s
   pub most : slotsOf s ≤ mostSlots
@@ -33,11 +33,11 @@ pub record Sound (s : List ℕ) : Type 0 where
 abbrev pub SoundIs : Type 0
 SoundIs = (s : List ℕ) → sound s ≡ true → Sound s
 
--- the image of acceptable entries in key order that fit its slots is sound
+-- the image of acceptable entries in key order that fit its slots is sound (R114)
 abbrev pub SoundImage : Type 0
 SoundImage = (c : ℕ) (es : List Entry) → 1 ≤ c → c ≤ mostSlots → length es ≤ c → AllFit es
     → allAcceptable es ≡ true → ascending es ≡ true → sound (image c es) ≡ true
 
--- the entries of an image are read back from it
+-- the entries of an image are read back from it (R193)
 abbrev pub EntriesOfImage : Type 0
 EntriesOfImage = (c : ℕ) (es : List Entry) → AllFit es → length es < 2 ^ 16 → entriesOf (image c es) ≡ es

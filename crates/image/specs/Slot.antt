@@ -9,7 +9,7 @@ use Rattle.entry.specs.Entry.{Entry}
 use Rattle.image.specs.Layout.{headerWidth, slotWidth, slotStart}
 use Rattle.image.specs.Image.{header, slotBytes}
 
--- the bytes of slot i, as many of them as there are
+-- the bytes of slot i, as many of them as there are (R104)
 unfoldable pub slotAt : ℕ → List ℕ → List ℕ
 slotAt i s = field (slotStart i) slotWidth s
 
@@ -17,11 +17,11 @@ slotAt i s = field (slotStart i) slotWidth s
 abbrev pub hasSlot : ℕ → List ℕ → Bool
 hasSlot i s = leb (slotStart (i + 1)) (length s)
 
--- a slot's bytes with an entry written over them; bytes that are no slot stay
+-- a slot's bytes with an entry written over them; bytes that are no slot stay (R104)
 unfoldable pub slotWith : Entry → List ℕ → List ℕ
 slotWith e s = cond (eqb (length s) slotWidth) (slotBytes e) s
 
 -- a header's bytes with the header of C slots and U used written over them; bytes that are no
--- header stay
+-- header stay (R103)
 unfoldable pub headerWith : ℕ → ℕ → List ℕ → List ℕ
 headerWith c u s = cond (eqb (length s) headerWidth) (header c u) s

@@ -9,6 +9,7 @@ use borrow.Author.Tests.{lt-ltb, le-ltb, eq-eqb, ne-eqb}
 use Rattle.wire.specs.Number.{num}
 use Rattle.wire.specs.Fill.{field}
 use Rattle.wire.proofs.Fields.{num-field}
+use Rattle.frame.specs.Layout.{maxLen}
 use Rattle.journal.specs.Journal.{timeIn, lenIn, whole, noRecord, pieceOf}
 
 module _ (s : List ℕ) where
@@ -27,18 +28,18 @@ module _ (s : List ℕ) where
       cut-small h = rw (ne-eqb (length s) 0 n, le-ltb (length s) 8 m, lt-ltb (lenIn s) 6 h)
 
       module _ (a : 6 ≤ lenIn s) where
-        pub cut-large : 598 < lenIn s → noRecord false 3 ≡ pieceOf s
+        pub cut-large : maxLen < lenIn s → noRecord false 3 ≡ pieceOf s
         unfolding pieceOf
-        cut-large h = rw (ne-eqb (length s) 0 n, le-ltb (length s) 8 m, le-ltb (lenIn s) 6 a, lt-ltb 598 (lenIn s) h)
+        cut-large h = rw (ne-eqb (length s) 0 n, le-ltb (length s) 8 m, le-ltb (lenIn s) 6 a, lt-ltb maxLen (lenIn s) h)
 
-        module _ (b : lenIn s ≤ 598) where
+        module _ (b : lenIn s ≤ maxLen) where
           pub cut-body : length s < 8 + lenIn s → noRecord true 3 ≡ pieceOf s
           unfolding pieceOf
-          cut-body h = rw (ne-eqb (length s) 0 n, le-ltb (length s) 8 m, le-ltb (lenIn s) 6 a, le-ltb 598 (lenIn s) b, lt-ltb (length s) (8 + lenIn s) h)
+          cut-body h = rw (ne-eqb (length s) 0 n, le-ltb (length s) 8 m, le-ltb (lenIn s) 6 a, le-ltb maxLen (lenIn s) b, lt-ltb (length s) (8 + lenIn s) h)
 
           pub cut-whole : 8 + lenIn s ≤ length s → whole (timeIn s) (8 + lenIn s) ≡ pieceOf s
           unfolding pieceOf
-          cut-whole h = rw (ne-eqb (length s) 0 n, le-ltb (length s) 8 m, le-ltb (lenIn s) 6 a, le-ltb 598 (lenIn s) b, le-ltb (length s) (8 + lenIn s) h)
+          cut-whole h = rw (ne-eqb (length s) 0 n, le-ltb (length s) 8 m, le-ltb (lenIn s) 6 a, le-ltb maxLen (lenIn s) b, le-ltb (length s) (8 + lenIn s) h)
 
   -- the numbers as they are read
   pub len-read : (n : ℕ) → n ≡ num (take 8 (take 2 (drop 6 s))) → n ≡ lenIn s

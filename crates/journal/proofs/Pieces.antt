@@ -12,7 +12,8 @@ use borrow.Author.Tests.{ltb-true, ltb-false, le-ltb, eqb-true, ne-eqb}
 use Rattle.wire.proofs.Tests.{cases, or-false}
 use Rattle.wire.specs.Fill.{field}
 use Rattle.wire.specs.Number.{num}
-use Rattle.journal.specs.Journal.{Piece, whole, noRecord, timeIn, lenIn, pieceOf}
+use Rattle.frame.specs.Layout.{maxLen}
+use Rattle.journal.specs.Journal.{Piece, whole, noRecord, maxRecord, timeIn, lenIn, pieceOf}
 use Rattle.journal.specs.Meaning.{MoreBytesKeep, BegunIsShort}
 use Rattle.journal.proofs.Cutting.{cut-whole}
 
@@ -24,28 +25,28 @@ module _ (s : List ℕ) where
   -- LEN can be read and is out of range
   pub record IsBroken : Type 0 where
     pub head : 8 ≤ length s
-    pub out : ltb (lenIn s) 6 || ltb 598 (lenIn s) ≡ true
+    pub out : ltb (lenIn s) 6 || ltb maxLen (lenIn s) ≡ true
 
   -- LEN is in range, and a record of that length is whole or only begun
   pub record Has (t e : ℕ) : Type 0 where
     pub time-is : t ≡ timeIn s
     pub end-is : e ≡ 8 + lenIn s
     pub least : 6 ≤ lenIn s
-    pub most : lenIn s ≤ 598
+    pub most : lenIn s ≤ maxLen
     pub within : e ≤ length s
 
   pub piece-cases : (P : Piece → Type 0)
       → (length s ≡ 0 → P (noRecord true 0))
-      → (length s < 606 → P (noRecord true 3))
+      → (length s < maxRecord → P (noRecord true 3))
       → (IsBroken → P (noRecord false 3))
       → (Has (timeIn s) (8 + lenIn s) → P (whole (timeIn s) (8 + lenIn s)))
       → P (pieceOf s)
   unfolding pieceOf
   piece-cases P z b k w = cases (eqb (length s) 0) (λ p. rw p (z (eqb-true (length s) 0 p))) (λ p. rw p
       (cases (ltb (length s) 8) (λ q. rw q (b (omega (arith, ltb-true (length s) 8 q)))) (λ q. rw q
-      (cases (ltb (lenIn s) 6 || ltb 598 (lenIn s)) (λ r. rw r (k (record { head = ltb-false (length s) 8 q; out = r }))) (λ r. rw r
-      (let i = or-false (ltb (lenIn s) 6) (ltb 598 (lenIn s)) r in
-      let l : lenIn s ≤ 598 = omega (arith, ltb-false 598 (lenIn s) (i .1)) in
+      (cases (ltb (lenIn s) 6 || ltb maxLen (lenIn s)) (λ r. rw r (k (record { head = ltb-false (length s) 8 q; out = r }))) (λ r. rw r
+      (let i = or-false (ltb (lenIn s) 6) (ltb maxLen (lenIn s)) r in
+      let l : lenIn s ≤ maxLen = omega (arith, ltb-false maxLen (lenIn s) (i .1)) in
       cases (ltb (length s) (8 + lenIn s)) (λ j. rw j (b (omega (arith, ltb-true (length s) (8 + lenIn s) j)))) (λ j. rw j
       (w (record { time-is = refl; end-is = refl; least = ltb-false (lenIn s) 6 (i .0); most = l; within = ltb-false (length s) (8 + lenIn s) j })))))))))
 
@@ -70,14 +71,14 @@ module _ (s : List ℕ) where
   refusal-number more n = piece-cases (λ p. p ≡ noRecord more n → (n ≡ 0) ⊎ (n ≡ 3)) (λ z h. inl (cc)) (λ b h. inr (cc)) (λ k h. inr (cc)) (λ w h. never (cc))
 
 pub begun-is-short : BegunIsShort
-begun-is-short s n = piece-cases s (λ p. p ≡ noRecord true n → length s < 606)
+begun-is-short s n = piece-cases s (λ p. p ≡ noRecord true n → length s < maxRecord)
     (λ z h. omega arith)
     (λ b h. b)
     (λ k h. never (cc))
     (λ w h. never (cc))
 
--- a whole record has 14 to 606 bytes, and lies within those at hand
-pub whole-within : (s : List ℕ) (t e : ℕ) → pieceOf s ≡ whole t e → (14 ≤ e) × (e ≤ 606) × (e ≤ length s)
+-- a whole record has 14 bytes to the most, and lies within those at hand
+pub whole-within : (s : List ℕ) (t e : ℕ) → pieceOf s ≡ whole t e → (14 ≤ e) × (e ≤ maxRecord) × (e ≤ length s)
 whole-within s t e h = let w = whole-has s t e h in (omega (arith, w .end-is, w .least), omega (arith, w .end-is, w .most), w .within)
 
 -- ---- more bytes

@@ -1,4 +1,5 @@
 // A journal is a run of records, each a time (6 bytes) and a frame. This cuts the first record from the bytes at hand.
+use frame::MAX_LEN;
 use wire::get_be;
 ghost use mathlib.Core.Path.{_≡_};
 ghost use Rattle.journal.specs.Journal.{meaning, pieceOf};
@@ -29,7 +30,7 @@ pub fn cut_record(bytes: &[u8]) -> Cut
     if len < 6 {
         return Cut::Broken;
     }
-    if 598 < len {
+    if MAX_LEN < len {
         return Cut::Broken;
     }
     let end = 8 + len;

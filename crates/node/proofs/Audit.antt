@@ -20,6 +20,7 @@ use Rattle.entry.proofs.Accept.{accepted}
 use Rattle.clock.specs.declared.Clock.{Clock}
 use Rattle.clock.specs.Clock.{stampOf}
 use Rattle.clock.proofs.Rising.{send-rises}
+use Rattle.frame.specs.Layout.{maxFrame}
 use Rattle.image.specs.Image.{entriesOf, sound}
 use Rattle.store.specs.Held.{_∈_, put, find}
 use Rattle.store.specs.Answer as answer
@@ -32,7 +33,7 @@ use Rattle.store.proofs.OnSound.{ordered}
 use Rattle.store.proofs.Keeping.{offer-taken, offer-keeps, kept-unchanged}
 use Rattle.node.specs.Handler.{Served, done, refused, gets, serve, serveFrame, settle, handled}
 use Rattle.node.specs.Meaning.{RefusalChangesNothing, StaleReplicaChangesNothing, GetAfterPut, GetAfterDel, StillHeld, NeverLosesOrLowers}
-use Rattle.node.proofs.Deeds.{Took, Wrote, write-done, replica-done, send-fits, deed}
+use Rattle.node.proofs.Deeds.{Took, LocallyWrote, write-done, replica-done, deed}
 
 -- ---- a refusal
 settled-refusal : (s : List ℕ) (c : Clock) (reply : List ℕ) (x : Served) → (settle s c reply x .refusal ≡ 0 → ⊥)
@@ -43,7 +44,7 @@ settled-refusal s c reply (refused n) h = (refl, refl)
 
 pub refusal-changes-nothing : RefusalChangesNothing
 unfolding handled
-refusal-changes-nothing s c now frame reply h = elim (test (ltb (length reply) 600)) [
+refusal-changes-nothing s c now frame reply h = elim (test (ltb (length reply) maxFrame)) [
   | inl p ↦ rw p (refl, refl)
   | inr p ↦ rw p (settled-refusal s c reply (serveFrame s c now frame) (rw p at h))
 ]
@@ -114,12 +115,12 @@ local-better k v f t none z = refl
 local-better k v f t (some g) z = rw (not-false (stampBelow (g .stamp) t) z)
 
 written : (s : List ℕ) → sound s ≡ true → (c : Clock) → c .node < 2 ^ 8 → (now : ℕ) (k v : List ℕ) (f : ℕ) (s′ : List ℕ) (d : Clock)
-    → Wrote s c now k v f s′ d → Holds s′ k v f
+    → LocallyWrote s c now k v f s′ d → Holds s′ k v f
 unfolding overtaken
 written s h c n now k v f s′ d w =
     let e : Entry = entryOf k v f (stampOf d) in
-    let o = send-rises c d now (w .step) .node in
-    let keeps = took-keeps s h e s′ (w .took) (record { logical = send-fits c d now (w .step); node = rw o n }) in
+    let r = send-rises c d now (w .step) in
+    let keeps = took-keeps s h e s′ (w .took) (record { logical = r .logical; node = rw (r .node) n }) in
     let b = local-better k v f (stampOf d) (find k (entriesOf s)) (w .above) in
     record {
       stamp = stampOf d;

@@ -12,7 +12,7 @@ use Rattle.wire.proofs.Tests.{test}
 use Rattle.entry.specs.Entry.{badTime}
 use Rattle.clock.specs.declared.Clock.{Clock}
 use Rattle.frame.specs.Message.{Message}
-use Rattle.frame.specs.Layout.{typeOf}
+use Rattle.frame.specs.Layout.{maxFrame, typeOf}
 use Rattle.frame.specs.Reading.{Outcome, typeIn, readFrame}
 use Rattle.frame.specs.Reading as reading
 use Rattle.frame.proofs.RoundTrips.{read-has-type}
@@ -29,7 +29,7 @@ pub asked : (s : List ℕ) (c : Clock) (now : ℕ) (frame reply : List ℕ) (m :
 unfolding handled serveFrame serveOutcome
 asked s c now frame reply m a q =
     let t : leb 16 (typeIn frame) ≡ false = ap (leb 16) (sym (read-has-type frame m (a .reads))) ∙ q in
-    rw (le-ltb (length reply) 600 (a .room), a .is-sound, lt-leb (2 ^ 48) now (a .time), lt-leb (2 ^ 48) (c .phys) (a .phys), t, a .reads)
+    rw (le-ltb (length reply) maxFrame (a .room), a .is-sound, lt-leb (2 ^ 48) now (a .time), lt-leb (2 ^ 48) (c .phys) (a .phys), t, a .reads)
 
 -- ---- a call that is not refused
 pub record Done (s : List ℕ) (c : Clock) (reply : List ℕ) (x : Served) : Type 0 where
@@ -77,7 +77,7 @@ module _ (s : List ℕ) (c : Clock) (now : ℕ) (frame : List ℕ) where
 
     pub served-call : left .refusal ≡ 0 → ServedCall
     unfolding handled
-    served-call z = elim (test (ltb (length reply) 600)) [
+    served-call z = elim (test (ltb (length reply) maxFrame)) [
       | inl p ↦ let a : _≡_ {A = ℕ} 4 0 = rw p at z in absurd (eqb-false 4 0 refl a)
       | inr p ↦
           let x = serveFrame s c now frame in
@@ -88,13 +88,13 @@ module _ (s : List ℕ) (c : Clock) (now : ℕ) (frame : List ℕ) where
 
     -- what a call did: nothing to the store and the clock; or it stepped the clock, and
     -- offered an entry with the key of the message that its frame reads as
-    pub record Wrote : Type 0 where
+    pub record CallWrote : Type 0 where
       pub is-sound : sound s ≡ true
       pub asks : Message
       pub reads : readFrame frame ≡ reading.message asks
       pub offers : Offers s c asks (left .store) (left .clock)
 
-    pub call-deed : ((left .store ≡ s) × (left .clock ≡ c)) ⊎ Wrote
+    pub call-deed : ((left .store ≡ s) × (left .clock ≡ c)) ⊎ CallWrote
     call-deed = elim (test (eqb (left .refusal) 0)) [
       | inl p ↦
           let k = served-call (eqb-true _ 0 p) in

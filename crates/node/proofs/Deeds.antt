@@ -1,16 +1,14 @@
 -- What a served request did.
-use Prim.Native.Nat.{ℕ, _+_, _^_, _<_}
+use Prim.Native.Nat.{ℕ, _^_, _<_}
 use native.Mathlib.Omega.{arith}
-use mathlib.Core.Path.{_≡_, refl, ap}
+use mathlib.Core.Path.{_≡_, refl}
 use mathlib.Core.Logic.{_⊎_, inl, inr}
-use mathlib.Core.Bool.{false, _||_}
+use mathlib.Core.Bool.{false}
 use mathlib.Core.List.{List, []}
-use lib.Dec.{ltb, leb}
-use borrow.Author.Tests.{leb-false}
 use Rattle.wire.proofs.Tests.{test}
-use Rattle.entry.specs.Entry.{Entry, entryOf, badTime}
+use Rattle.entry.specs.Entry.{Entry, entryOf}
 use Rattle.clock.specs.declared.Clock.{Clock}
-use Rattle.clock.specs.Clock.{Stepped, stampOf, raise, sendStep, receiveStep}
+use Rattle.clock.specs.Clock.{Stepped, stampOf, sendStep, receiveStep}
 use Rattle.clock.specs.Clock as clock
 use Rattle.clock.specs.Meaning.{Rises}
 use Rattle.clock.proofs.Rising.{send-rises, receive-rises}
@@ -47,13 +45,13 @@ module _ (s : List ℕ) (e : Entry) (n : Clock) (s′ : List ℕ) (d : Clock) (m
   offered-done h = by-answer (offerAnswer s e) refl h
 
 -- ---- a local write that was served
-pub record Wrote (s : List ℕ) (c : Clock) (now : ℕ) (k v : List ℕ) (f : ℕ) (s′ : List ℕ) (d : Clock) : Type 0 where
+pub record LocallyWrote (s : List ℕ) (c : Clock) (now : ℕ) (k v : List ℕ) (f : ℕ) (s′ : List ℕ) (d : Clock) : Type 0 where
   pub step : sendStep c now ≡ clock.next d
   pub above : overtaken s k (stampOf d) ≡ false
   pub took : Took s (entryOf k v f (stampOf d)) s′
 
 module _ (s : List ℕ) (c : Clock) (now : ℕ) (k v : List ℕ) (f : ℕ) (s′ : List ℕ) (d : Clock) (m : Message) where
-  stepped : (t : Stepped) → sendStep c now ≡ t → writeLocally s k v f t ≡ done s′ d m → Wrote s c now k v f s′ d
+  stepped : (t : Stepped) → sendStep c now ≡ t → writeLocally s k v f t ≡ done s′ d m → LocallyWrote s c now k v f s′ d
   unfolding writeLocally
   stepped (clock.next n) e h = elim (test (overtaken s k (stampOf n))) [
     | inl p ↦ no-done 7 s′ d m (rw p at h)
@@ -63,7 +61,7 @@ module _ (s : List ℕ) (c : Clock) (now : ℕ) (k v : List ℕ) (f : ℕ) (s′
   ]
   stepped (clock.refused j) e h = no-done j s′ d m h
 
-  pub write-done : writeLocally s k v f (sendStep c now) ≡ done s′ d m → Wrote s c now k v f s′ d
+  pub write-done : writeLocally s k v f (sendStep c now) ≡ done s′ d m → LocallyWrote s c now k v f s′ d
   write-done h = stepped (sendStep c now) refl h
 
 -- ---- a replica that was served
@@ -93,34 +91,6 @@ gets-stays s c v lookup.deleted = (refl, refl)
 gets-stays s c v lookup.never = (refl, refl)
 gets-stays s c v (lookup.refused n) = tt
 
--- ---- the logical count of a sent stamp fits its field
-no-step : {A : Type 0} (n : ℕ) (d : Clock) → clock.refused n ≡ clock.next d → A
-no-step n d e = let z : _≡_ {A = ℕ} 0 1 = cc in absurd (omega arith)
-
-logicalOf : Stepped → ℕ
-logicalOf (clock.next c) = c .logical
-logicalOf (clock.refused n) = 0
-
-raise-fits : (c d : Clock) (p l : ℕ) → raise c p l ≡ clock.next d → d .logical < 2 ^ 16
-unfolding raise logicalOf
-raise-fits c d p l e = elim (test (leb 65535 l)) [
-  | inl q ↦ no-step 8 d (rw q at e)
-  | inr q ↦
-      let b = leb-false 65535 l q in
-      let a : l + 1 ≡ d .logical = ap logicalOf (rw q at e) in
-      omega arith
-]
-
-pub send-fits : (c d : Clock) (now : ℕ) → sendStep c now ≡ clock.next d → d .logical < 2 ^ 16
-unfolding sendStep logicalOf
-send-fits c d now e = elim (test (badTime now || badTime (c .phys))) [
-  | inl p ↦ no-step 9 d (rw p at e)
-  | inr p ↦ elim (test (ltb (c .phys) now)) [
-    | inl q ↦ let a : 0 ≡ d .logical = ap logicalOf (rw (p, q) at e) in omega arith
-    | inr q ↦ raise-fits c d (c .phys) (c .logical) (rw (p, q) at e)
-  ]
-]
-
 -- ---- any request that was served
 -- one that writes steps the clock and offers an entry with its key
 pub record Offers (s : List ℕ) (c : Clock) (m : Message) (s′ : List ℕ) (d : Clock) : Type 0 where
@@ -132,7 +102,7 @@ pub record Offers (s : List ℕ) (c : Clock) (m : Message) (s′ : List ℕ) (d 
   pub fits : c .node < 2 ^ 8 → InRange m → Representable entry
 
 module _ (s : List ℕ) (c : Clock) (now : ℕ) (s′ : List ℕ) (d : Clock) where
-  wrote : (m : Message) (v : List ℕ) (f : ℕ) → Wrote s c now (keyOf m) v f s′ d → Offers s c m s′ d
+  wrote : (m : Message) (v : List ℕ) (f : ℕ) → LocallyWrote s c now (keyOf m) v f s′ d → Offers s c m s′ d
   wrote m v f w =
       let r = send-rises c d now (w .step) in
       record {
@@ -140,7 +110,7 @@ module _ (s : List ℕ) (c : Clock) (now : ℕ) (s′ : List ℕ) (d : Clock) wh
         key = refl;
         rises = r;
         took = w .took;
-        fits = λ n i. record { logical = send-fits c d now (w .step); node = rw (r .node) n };
+        fits = λ n i. record { logical = r .logical; node = rw (r .node) n };
       }
 
   -- one that reads leaves the store and the clock

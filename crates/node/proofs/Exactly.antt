@@ -17,11 +17,11 @@ use Rattle.entry.specs.Entry.{Entry, entryOf, badTime, badFlag, refusalOf, beat
 use Rattle.clock.specs.declared.Clock.{Clock}
 use Rattle.clock.specs.Clock.{Stepped, stampOf, sendStep, receiveStep}
 use Rattle.clock.specs.Clock as clock
-use Rattle.clock.proofs.Steps.{Numbered as StepNumbered, send-numbered, receive-numbered}
+use Rattle.clock.proofs.Steps.{StepNumbered, send-numbered, receive-numbered}
 use Rattle.clock.proofs.Rising.{send-rises}
 use Rattle.frame.specs.Message.{Message, messageRefusal, keyFault, valueFault}
 use Rattle.frame.specs.Message as message
-use Rattle.frame.specs.Layout.{typeOf}
+use Rattle.frame.specs.Layout.{maxFrame, typeOf}
 use Rattle.frame.specs.Reading.{Outcome, typeIn, readFrame}
 use Rattle.frame.specs.Reading as reading
 use Rattle.frame.proofs.Bodies.{taken, repl-refusal}
@@ -143,12 +143,12 @@ module _ (s : List ℕ) (c : Clock) (now : ℕ) (frame reply : List ℕ) where
     serve-reason message.notFound a = inl (other 3 (inl (omega arith)))
     serve-reason (message.err j) a = inl (other 3 (inl (omega arith)))
 
-    outcome-reason : now < 2 ^ 48 → c .phys < 2 ^ 48 → 600 ≤ length reply → (o : Outcome) → readFrame frame ≡ o → Reason (serveOutcome s c now o)
+    outcome-reason : now < 2 ^ 48 → c .phys < 2 ^ 48 → maxFrame ≤ length reply → (o : Outcome) → readFrame frame ≡ o → Reason (serveOutcome s c now o)
     unfolding serveOutcome
     outcome-reason t p room (reading.message m) q = serve-reason m (record { room = room; is-sound = h; time = t; phys = p; reads = q })
     outcome-reason t p room (reading.refused j) q = let n = read-refusals frame j q in inl (other j (inl (omega arith)))
 
-  frame-reason : 600 ≤ length reply → Reason (serveFrame s c now frame)
+  frame-reason : maxFrame ≤ length reply → Reason (serveFrame s c now frame)
   unfolding serveFrame
   frame-reason room = elim (test (sound s)) [
     | inl h ↦ elim (test (badTime now || badTime (c .phys))) [
@@ -171,7 +171,7 @@ module _ (s : List ℕ) (c : Clock) (now : ℕ) (frame reply : List ℕ) where
   -- a call that is refused with 6 or 7
   call-why : (n : ℕ) → 5 < n → handled s c now frame reply .refusal ≡ n → Why n
   unfolding handled
-  call-why n l e = elim (test (ltb (length reply) 600)) [
+  call-why n l e = elim (test (ltb (length reply) maxFrame)) [
     | inl p ↦ let a : _≡_ {A = ℕ} 4 n = rw p at e in absurd (omega arith)
     | inr p ↦ settled-why n (omega arith) (serveFrame s c now frame) (frame-reason (ltb-false _ _ p)) (rw p at e)
   ]

@@ -8,6 +8,7 @@ use lib.Dec.{leb}
 use borrow.Author.Tests.{lt-ltb, le-ltb, le-leb, lt-leb}
 use Rattle.clock.specs.declared.Clock.{Clock}
 use Rattle.frame.specs.declared.answer.Read.{Read}
+use Rattle.frame.specs.Layout.{maxFrame}
 use Rattle.frame.specs.Reading.{meaning, typeIn, readAnswer, readFrame}
 use Rattle.image.specs.Image.{sound}
 use Rattle.node.specs.declared.Handled.{Handled}
@@ -19,14 +20,14 @@ use Rattle.node.specs.Request.{Refuses, Settles}
 use Rattle.node.proofs.Settling.{settled-refused, settled-as}
 
 module _ (s : List ℕ) (c : Clock) (now : ℕ) (frame out : List ℕ) where
-  pub no-room : length out < 600 → Handles s c now frame out (record { clock = c; written = 0; answer = reply.Refused NoRoom }) s out
+  pub no-room : length out < maxFrame → Handles s c now frame out (record { clock = c; written = 0; answer = reply.Refused NoRoom }) s out
   unfolding handled
-  no-room h = rw (lt-ltb (length out) 600 h) record { store-is = refl; clock-is = refl; reply-is = refl; written-is = refl; answer-is = refl }
+  no-room h = rw (lt-ltb (length out) maxFrame h) record { store-is = refl; clock-is = refl; reply-is = refl; written-is = refl; answer-is = refl }
 
-  module _ (room : 600 ≤ length out) (r : Handled) (store′ out′ : List ℕ) where
+  module _ (room : maxFrame ≤ length out) (r : Handled) (store′ out′ : List ℕ) where
     pub handles : (x : Served) → x ≡ serveFrame s c now frame → Settles s c out x r store′ out′ → Handles s c now frame out r store′ out′
     unfolding handled
-    handles x e p = rw (le-ltb (length out) 600 room) (settled-as s c out r store′ out′ x (serveFrame s c now frame) e p)
+    handles x e p = rw (le-ltb (length out) maxFrame room) (settled-as s c out r store′ out′ x (serveFrame s c now frame) e p)
 
     pub refuses : (n : ℕ) → refused n ≡ serveFrame s c now frame → store′ ≡ s → Refuses c n out r out′ → Handles s c now frame out r store′ out′
     refuses n e k p = handles (refused n) e (settled-refused s c out r store′ out′ n k p)

@@ -16,7 +16,7 @@ use Rattle.clock.specs.declared.Clock.{Clock}
 use Rattle.frame.specs.declared.answer.Wrote.{Wrote}
 use Rattle.frame.specs.declared.answer.Wrote.the-variants.{Bytes}
 use Rattle.frame.specs.Message.{Message, ok, notFound, err, messageRefusal, timeFault, keyFault, valueFault, argumentFault}
-use Rattle.frame.specs.Layout.{frameOf}
+use Rattle.frame.specs.Layout.{maxFrame, frameOf}
 use Rattle.frame.specs.Reading.{typeIn, numberAt}
 use Rattle.frame.specs.Writing.{Writes}
 use Rattle.frame.proofs.Bodies.{err-taken}
@@ -26,7 +26,7 @@ use Rattle.node.specs.Handler.{over}
 use Rattle.node.specs.Answer.{replyNumber}
 use Rattle.node.specs.Request.{bytesOf, Replies}
 
-module _ (m : Message) (reply : List ℕ) (taken : messageRefusal m ≡ 0) (room : 600 ≤ length reply)
+module _ (m : Message) (reply : List ℕ) (taken : messageRefusal m ≡ 0) (room : maxFrame ≤ length reply)
     (w : Wrote) (after : List ℕ) (done : Writes m reply w after) where
   whole : (w ≡ Bytes (length (frameOf m))) × (after ≡ over (frameOf m) reply)
   unfolding over

@@ -20,8 +20,8 @@ use Rattle.entry.specs.Entry.{Entry, entryOf}
 use Rattle.clock.specs.declared.Clock.{Clock}
 use Rattle.clock.specs.Clock.{Stepped, stampOf, sendStep, receiveStep}
 use Rattle.clock.specs.Clock as clock
-use Rattle.clock.specs.Answer.{stamp, refusal, given, clockAfter, refusalOf}
-use Rattle.clock.proofs.Steps.{Numbered}
+use Rattle.clock.specs.Answer.{stamp, refusal, given, clockAfter, stepRefusalOf}
+use Rattle.clock.proofs.Steps.{StepNumbered}
 use Rattle.frame.specs.declared.answer.Message.{Message as Located}
 use Rattle.frame.specs.declared.answer.Message.the-variants.{Put, Get, Del, Repl, Ok, Value, NotFound, Err}
 use Rattle.frame.specs.declared.answer.Read.{Read}
@@ -68,12 +68,12 @@ module _ (s : List ℕ) (c n : Clock) where
   not-sent k v f (clock.refused i) j g = let q : j ≡ i = cc in ap refused q
 
   -- a receive that was taken
-  pub received : (e : Entry) (t : Stepped) → Numbered t → n ≡ clockAfter c t → 0 ≡ refusalOf t → offered s n e ≡ takeReplica s e t
+  pub received : (e : Entry) (t : Stepped) → StepNumbered t → n ≡ clockAfter c t → 0 ≡ stepRefusalOf t → offered s n e ≡ takeReplica s e t
   unfolding takeReplica
   received e (clock.next d) p k g = ap (λ (a : Clock). offered s a e) k
   received e (clock.refused j) p k g = absurd (omega arith)
 
-  pub not-received : (e : Entry) (t : Stepped) (j : ℕ) → 0 < j → j ≡ refusalOf t → refused j ≡ takeReplica s e t
+  pub not-received : (e : Entry) (t : Stepped) (j : ℕ) → 0 < j → j ≡ stepRefusalOf t → refused j ≡ takeReplica s e t
   unfolding takeReplica
   not-received e (clock.next d) j p g = absurd (omega arith)
   not-received e (clock.refused i) j p g = ap refused g
@@ -85,7 +85,8 @@ module _ (s : List ℕ) (h : sound s ≡ true) (key : List ℕ) where
   looked-as c l k told e = ap (gets s c (valuePart s key)) (sym (ap findingOf e) ∙ told ∙ unchecked-on-sound s h .lookup key)
 
   -- the place that was given lies in the store, and the value stands there
-  pub value-at : (l : Looked) (at len : ℕ) → findingOf l ≡ lookupUnchecked s key → l ≡ looked.Value at len → (at + len ≤ length s) × (field at len s ≡ valuePart s key)
+  pub value-at : (l : Looked) (at len : ℕ) → findingOf l ≡ lookupUnchecked s key → l ≡ looked.Value at len
+      → (at + len ≤ length s) × (field at len s ≡ valuePart s key)
   value-at l at len told e = value-stands s key at len (sym (unchecked-on-sound s h .lookup key) ∙ sym told ∙ ap findingOf e)
 
   found-fits : (o : Option Entry) → find key (entriesOf s) ≡ o → length (valueFor o) ≤ 512

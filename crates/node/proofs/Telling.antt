@@ -12,17 +12,18 @@ use lib.Dec.{ltb, leb, eqb}
 use borrow.Author.Tests.{eqb-false, le-ltb}
 use Rattle.wire.proofs.Tests.{test}
 use Rattle.entry.specs.Key.{badKey}
+use Rattle.entry.specs.Refusal.{lastNumber, Numbered}
 use Rattle.entry.specs.Entry.{Entry, entryOf, beats, badFlag, refusalOf, badTime}
 use Rattle.entry.proofs.Numbers.{number-range}
 use Rattle.clock.specs.declared.Clock.{Clock}
 use Rattle.clock.specs.Clock.{Stepped, stampOf, sendStep, receiveStep}
 use Rattle.clock.specs.Clock as clock
-use Rattle.clock.proofs.Steps.{Numbered as StepNumbered, send-numbered, receive-numbered}
+use Rattle.clock.proofs.Steps.{StepNumbered, send-numbered, receive-numbered}
 use Rattle.frame.specs.declared.answer.Read.{Read}
 use Rattle.frame.specs.declared.answer.Read.the-variants as read
 use Rattle.frame.specs.Message.{Message, messageRefusal, InRange}
 use Rattle.frame.specs.Message as message
-use Rattle.frame.specs.Layout.{frameOf}
+use Rattle.frame.specs.Layout.{maxFrame, frameOf}
 use Rattle.frame.specs.Reading.{Outcome, meaning, typeIn, readAnswer, readFrame}
 use Rattle.frame.specs.Reading as reading
 use Rattle.frame.proofs.Bodies.{value-taken, err-taken}
@@ -42,10 +43,6 @@ use Rattle.node.specs.Meaning.{ReadsBack, ReplyReadsBack, ReplyAtMost600
 use Rattle.node.proofs.Replying.{ok-taken, not-found-taken}
 use Rattle.node.proofs.Serving.{value-fits}
 
--- the number of a refusal
-abbrev pub Numbered : ℕ → Type 0
-Numbered n = (0 < n) × (n ≤ 17)
-
 -- ---- the store's refusals
 abbrev pub AnswerNumbered : Answer → Type 0
 AnswerNumbered answer.stored = Unit {0}
@@ -59,10 +56,10 @@ unfolding told
 told-numbered e none = tt
 told-numbered e (some h) = either AnswerNumbered (beats e h) _ _ tt tt
 
-refusal-small : (e : Entry) → refusalOf e ≤ 17
+refusal-small : (e : Entry) → refusalOf e ≤ lastNumber
 unfolding refusalOf
 refusal-small e =
-    let P : ℕ → Type 0 = λ n. n ≤ 17 in
+    let P : ℕ → Type 0 = λ n. n ≤ lastNumber in
     either P (leb (2 ^ 48) (e .stamp .phys)) 9 _ (omega arith)
     (either P (badKey (e .key)) 1 _ (omega arith)
     (either P (ltb 512 (length (e .value))) 2 _ (omega arith)
@@ -190,16 +187,16 @@ settled-reads s c reply (refused n) t =
 pub reply-reads-back : ReplyReadsBack
 unfolding handled
 reply-reads-back s c now frame reply room =
-    rw (le-ltb (length reply) 600 room) (settled-reads s c reply (serveFrame s c now frame) (frame-tellable s c now frame))
+    rw (le-ltb (length reply) maxFrame room) (settled-reads s c reply (serveFrame s c now frame) (frame-tellable s c now frame))
 
-settled-short : (s : List ℕ) (c : Clock) (reply : List ℕ) (x : Served) → Tellable x → settle s c reply x .written ≤ 600
+settled-short : (s : List ℕ) (c : Clock) (reply : List ℕ) (x : Served) → Tellable x → settle s c reply x .written ≤ maxFrame
 unfolding settle
 settled-short s c reply (done s′ c′ m) t = frame-at-most-600 m (t .0)
 settled-short s c reply (refused n) t = frame-at-most-600 (message.err n) (err-numbered n t)
 
 pub reply-at-most-600 : ReplyAtMost600
 unfolding handled
-reply-at-most-600 s c now frame reply = elim (test (ltb (length reply) 600)) [
+reply-at-most-600 s c now frame reply = elim (test (ltb (length reply) maxFrame)) [
   | inl p ↦ rw p (omega arith)
   | inr p ↦ rw p (settled-short s c reply (serveFrame s c now frame) (frame-tellable s c now frame))
 ]

@@ -20,7 +20,7 @@ use Rattle.clock.specs.declared.Clock.{Clock}
 use Rattle.clock.specs.Clock.{stampOf}
 use Rattle.frame.specs.Message.{Message, InRange}
 use Rattle.frame.specs.Message as message
-use Rattle.frame.specs.Layout.{typeOf}
+use Rattle.frame.specs.Layout.{maxFrame, typeOf}
 use Rattle.frame.specs.Reading.{Outcome, typeIn, readFrame}
 use Rattle.frame.specs.Reading as reading
 use Rattle.frame.proofs.RoundTrips.{read-is-taken}
@@ -38,7 +38,7 @@ use Rattle.node.specs.Meaning.{GetFrameChangesNothing, GetsAfter, GetFra
 use Rattle.node.proofs.Deeds.{Stays, gets-stays, Offers, replica-done}
 use Rattle.node.proofs.Audit.{unchanged-safe, kept-safe, took-keeps, refusal-changes-nothing, stale-replica-changes-nothing}
 use Rattle.node.proofs.Audit.{get-after-put, get-after-del, never-loses-or-lowers}
-use Rattle.node.proofs.Calls.{Wrote, asked, served-call, call-deed}
+use Rattle.node.proofs.Calls.{CallWrote, asked, served-call, call-deed}
 
 same-message : {o : Outcome} {m n : Message} → o ≡ reading.message m → o ≡ reading.message n → m ≡ n
 same-message p q = cc
@@ -58,7 +58,7 @@ stale-frame-changes-nothing s c now frame reply e h r f b = elim (test (eqb (han
 ]
 
 -- ---- what any call leaves
-module _ (s : List ℕ) (c : Clock) (now : ℕ) (frame reply : List ℕ) (bytes : Bytes frame) (n : c .node < 2 ^ 8) (w : Wrote s c now frame reply) where
+module _ (s : List ℕ) (c : Clock) (now : ℕ) (frame reply : List ℕ) (bytes : Bytes frame) (n : c .node < 2 ^ 8) (w : CallWrote s c now frame reply) where
   abbrev o : Offers s c (w .asks) (handled s c now frame reply .store) (handled s c now frame reply .clock)
   o = w .offers
 
@@ -129,7 +129,7 @@ get-stays s c now frame k e = rw e
 
 pub get-frame-changes-nothing : GetFrameChangesNothing
 unfolding handled
-get-frame-changes-nothing s c now frame reply k e = elim (test (ltb (length reply) 600)) [
+get-frame-changes-nothing s c now frame reply k e = elim (test (ltb (length reply) maxFrame)) [
   | inl p ↦ rw p (refl, refl)
   | inr p ↦ rw p (settled-stays s c reply (serveFrame s c now frame) (get-stays s c now frame k e))
 ]

@@ -9,7 +9,7 @@ use Rattle.node.specs.declared.Reply.the-variants.{Done, Refused}
 use Rattle.node.specs.declared.Handled.{Handled}
 use Rattle.node.specs.Handler.{Result, handled}
 
--- the number of the refusal, or 0 if there is none
+-- the number of the refusal, or 0 if there is none (R199)
 abbrev pub replyNumber : Reply → ℕ
 replyNumber Done = 0
 replyNumber (Refused r) = number r
@@ -22,6 +22,6 @@ pub record Leaves (x : Result) (r : Handled) (store reply : List ℕ) : Type 0 w
   pub written-is : r .written ≡ x .written
   pub answer-is : replyNumber (r .answer) ≡ x .refusal
 
--- the promise of the handler
+-- the promise of the handler (R197)
 abbrev pub Handles : List ℕ → Clock → ℕ → List ℕ → List ℕ → Handled → List ℕ → List ℕ → Type 0
 Handles store c now frame reply r store′ reply′ = Leaves (handled store c now frame reply) r store′ reply′

@@ -7,11 +7,13 @@ use mathlib.Core.List.{List, []}
 use mathlib.Core.Option.{Option, none, some}
 use lib.ListN.{length, take}
 use Rattle.wire.specs.Number.{Bytes}
+use Rattle.entry.specs.Refusal.{lastNumber}
 use Rattle.entry.specs.Order.{stampBelow}
 use Rattle.entry.specs.Entry.{Entry, entryOf}
 use Rattle.clock.specs.declared.Clock.{Clock}
 use Rattle.clock.specs.Clock.{next, stampOf, sendStep, receiveStep}
 use Rattle.frame.specs.Message.{Message, put, get, del, repl, value, notFound, err, keyOf, InRange}
+use Rattle.frame.specs.Layout.{maxFrame}
 use Rattle.frame.specs.Reading.{message, readFrame}
 use Rattle.image.specs.Image.{slotsOf, entriesOf, sound}
 use Rattle.store.specs.Held.{_∈_, put as putEntry, find}
@@ -25,22 +27,22 @@ pub record Serves (s : List ℕ) (c : Clock) (now : ℕ) (m : Message) (s′ : L
   pub says : Message
   pub is : serve s c now m ≡ done s′ next says
 
--- a refusal, whatever the input, leaves the store and the clock as they came
+-- a refusal, whatever the input, leaves the store and the clock as they came (R29, R141)
 abbrev pub RefusalChangesNothing : Type 0
 RefusalChangesNothing = (store : List ℕ) (c : Clock) (now : ℕ) (frame reply : List ℕ) → (handled store c now frame reply .refusal ≡ 0 → ⊥)
     → (handled store c now frame reply .store ≡ store) × (handled store c now frame reply .clock ≡ c)
 
--- a replicated entry whose stamp is not above that of the held entry of its key leaves the store as it came
+-- a replicated entry whose stamp is not above that of the held entry of its key leaves the store as it came (R140)
 abbrev pub StaleReplicaChangesNothing : Type 0
 StaleReplicaChangesNothing = (s s′ : List ℕ) (c d : Clock) (now : ℕ) (e h : Entry) (m : Message) → sound s ≡ true
     → find (e .key) (entriesOf s) ≡ some h → stampBelow (h .stamp) (e .stamp) ≡ false → serve s c now (repl e) ≡ done s′ d m → s′ ≡ s
 
--- a GET after an accepted PUT of its key gives that value, at any clock and any time
+-- a GET after an accepted PUT of its key gives that value, at any clock and any time (R134, R136)
 abbrev pub GetAfterPut : Type 0
 GetAfterPut = (s s′ : List ℕ) (c d c′ : Clock) (now now′ : ℕ) (k v : List ℕ) (m : Message) → sound s ≡ true → c .node < 2 ^ 8
     → serve s c now (put k v) ≡ done s′ d m → serve s′ c′ now′ (get k) ≡ done s′ c′ (value v)
 
--- and after an accepted DEL, NOTFOUND
+-- and after an accepted DEL, NOTFOUND (R135, R137)
 abbrev pub GetAfterDel : Type 0
 GetAfterDel = (s s′ : List ℕ) (c d c′ : Clock) (now now′ : ℕ) (k : List ℕ) (m : Message) → sound s ≡ true → c .node < 2 ^ 8
     → serve s c now (del k) ≡ done s′ d m → serve s′ c′ now′ (get k) ≡ done s′ c′ notFound
@@ -52,39 +54,39 @@ pub record StillHeld (h : Entry) (es : List Entry) : Type 0 where
   pub same-key : h .key ≡ entry .key
   pub not-lower : stampBelow (entry .stamp) (h .stamp) ≡ false
 
--- a served request leaves a sound store, loses no held key and lowers no held stamp
+-- a served request leaves a sound store, loses no held key and lowers no held stamp (R139, R190)
 abbrev pub NeverLosesOrLowers : Type 0
 NeverLosesOrLowers = (s s′ : List ℕ) (c d : Clock) (now : ℕ) (m m′ : Message) → sound s ≡ true → c .node < 2 ^ 8 → InRange m
     → serve s c now m ≡ done s′ d m′ → (sound s′ ≡ true) × ((h : Entry) → h ∈ entriesOf s → StillHeld h (entriesOf s′))
 
--- the bytes written by a call read as a message; a refusal has a number from 1 to 17, and the message is its ERR
+-- the bytes written by a call read as a message; a refusal has one of the numbers, and the message is its ERR (R30)
 pub record ReadsBack (x : Result) : Type 0 where
   pub says : Message
   pub reads : readFrame (take (x .written) (x .reply)) ≡ message says
-  pub numbered : x .refusal ≤ 17
+  pub numbered : x .refusal ≤ lastNumber
   pub tells : (x .refusal ≡ 0 → ⊥) → says ≡ err (x .refusal)
 
--- every reply reads back, where the reply buffer has room
+-- every reply reads back, where the reply buffer has room (R30)
 abbrev pub ReplyReadsBack : Type 0
-ReplyReadsBack = (store : List ℕ) (c : Clock) (now : ℕ) (frame reply : List ℕ) → 600 ≤ length reply → ReadsBack (handled store c now frame reply)
+ReplyReadsBack = (store : List ℕ) (c : Clock) (now : ℕ) (frame reply : List ℕ) → maxFrame ≤ length reply → ReadsBack (handled store c now frame reply)
 
--- a reply is at most 600 bytes long, whatever the input
+-- no reply is longer than the longest frame, whatever the input (R49)
 abbrev pub ReplyAtMost600 : Type 0
-ReplyAtMost600 = (store : List ℕ) (c : Clock) (now : ℕ) (frame reply : List ℕ) → handled store c now frame reply .written ≤ 600
+ReplyAtMost600 = (store : List ℕ) (c : Clock) (now : ℕ) (frame reply : List ℕ) → handled store c now frame reply .written ≤ maxFrame
 
 -- ---- the same of whole calls
 
--- a call that is not refused serves the message that its frame reads as, on a sound store
+-- a call that is not refused serves the message that its frame reads as, on a sound store (R32)
 abbrev pub AcceptedCallServes : Type 0
 AcceptedCallServes = (s : List ℕ) (c : Clock) (now : ℕ) (frame reply : List ℕ) (m : Message) → handled s c now frame reply .refusal ≡ 0
     → readFrame frame ≡ message m → (sound s ≡ true) × Serves s c now m (handled s c now frame reply .store)
 
--- a stale REPL frame leaves any store as it came, whatever else is given
+-- a stale REPL frame leaves any store as it came, whatever else is given (R140)
 abbrev pub StaleFrameChangesNothing : Type 0
 StaleFrameChangesNothing = (s : List ℕ) (c : Clock) (now : ℕ) (frame reply : List ℕ) (e h : Entry) → readFrame frame ≡ message (repl e)
     → find (e .key) (entriesOf s) ≡ some h → stampBelow (h .stamp) (e .stamp) ≡ false → handled s c now frame reply .store ≡ s
 
--- any call, refused or not, leaves a sound store sound, loses no held key and lowers no held stamp
+-- any call, refused or not, leaves a sound store sound, loses no held key and lowers no held stamp (R139, R190)
 abbrev pub CallNeverLosesOrLowers : Type 0
 CallNeverLosesOrLowers = (s : List ℕ) (c : Clock) (now : ℕ) (frame reply : List ℕ) → Bytes frame → sound s ≡ true → c .node < 2 ^ 8
     → (sound (handled s c now frame reply .store) ≡ true) × ((h : Entry) → h ∈ entriesOf s → StillHeld h (entriesOf (handled s c now frame reply .store)))
@@ -96,7 +98,7 @@ heldAfter e none = e
 heldAfter e (some h) = cond (stampBelow (h .stamp) (e .stamp)) e h
 
 -- an accepted REPL leaves its entry held with its stamp unaltered, far ahead or not, unless the
--- held one is not lower
+-- held one is not lower (R100, R139)
 abbrev pub AcceptedReplicaIsHeld : Type 0
 AcceptedReplicaIsHeld = (s : List ℕ) (c : Clock) (now : ℕ) (frame reply : List ℕ) (e : Entry) → Bytes frame → readFrame frame ≡ message (repl e)
     → handled s c now frame reply .refusal ≡ 0
@@ -117,16 +119,16 @@ pub record NotLowered (c d : Clock) : Type 0 where
 abbrev pub ClockNeverLowered : Type 0
 ClockNeverLowered = (s : List ℕ) (c : Clock) (now : ℕ) (frame reply : List ℕ) → NotLowered c (handled s c now frame reply .clock)
 
--- a GET frame leaves any store and any clock as they came, whatever else is given
+-- a GET frame leaves any store and any clock as they came, whatever else is given (R138)
 abbrev pub GetFrameChangesNothing : Type 0
 GetFrameChangesNothing = (s : List ℕ) (c : Clock) (now : ℕ) (frame reply k : List ℕ) → readFrame frame ≡ message (get k)
     → (handled s c now frame reply .store ≡ s) × (handled s c now frame reply .clock ≡ c)
 
--- a frame that reads as m was accepted and left the store t; a frame that reads as GET k is then answered with m′, and moves neither store nor clock
+-- a frame that reads as m was accepted and left the store t; one that reads as GET k is then answered with m′, and moves neither store nor clock (R134 to R138)
 abbrev pub GetsAfter : Message → List ℕ → Message → Type 0
 GetsAfter m k m′ = (s : List ℕ) (c c′ : Clock) (now now′ : ℕ) (frame frame′ reply reply′ : List ℕ) → c .node < 2 ^ 8
     → readFrame frame ≡ message m → handled s c now frame reply .refusal ≡ 0
-    → readFrame frame′ ≡ message (get k) → now′ < 2 ^ 48 → c′ .phys < 2 ^ 48 → 600 ≤ length reply′
+    → readFrame frame′ ≡ message (get k) → now′ < 2 ^ 48 → c′ .phys < 2 ^ 48 → maxFrame ≤ length reply′
     → let t : List ℕ = handled s c now frame reply .store in handled t c′ now′ frame′ reply′ ≡ settle t c′ reply′ (done t c′ m′)
 
 abbrev pub GetFrameAfterPutFrame : Type 0
@@ -148,24 +150,24 @@ FoundOrOffered = (s : List ℕ) (c : Clock) (now : ℕ) (frame reply : List ℕ)
     → (handled s c now frame reply .store ≡ s) ⊎ AfterOffer s (handled s c now frame reply .store)
 
 -- ---- 7 and 6, exactly
--- a call passes the checks 4, 5, 9, 3, 1 and 2, and asks m
+-- a call passes the checks 4, 5, 9, 3, 1 and 2, and asks m (R32)
 pub record Asks (s : List ℕ) (c : Clock) (now : ℕ) (frame reply : List ℕ) (m : Message) : Type 0 where
-  pub room : 600 ≤ length reply
+  pub room : maxFrame ≤ length reply
   pub is-sound : sound s ≡ true
   pub time : now < 2 ^ 48
   pub phys : c .phys < 2 ^ 48
   pub reads : readFrame frame ≡ message m
 
--- PUT and DEL send the clock to d, and make an entry with its stamp
+-- PUT and DEL send the clock to d, and make an entry with its stamp (R134, R135)
 pub data LocalWrite (c : Clock) (now : ℕ) (d : Clock) : Message → Entry → Type 0 where
   a-put : (k v : List ℕ) → sendStep c now ≡ next d → LocalWrite c now d (put k v) (entryOf k v 0 (stampOf d))
   a-del : (k : List ℕ) → sendStep c now ≡ next d → LocalWrite c now d (del k) (entryOf k [] 1 (stampOf d))
 
--- REPL receives a stamp, which moves the clock to d, and brings its entry
+-- REPL receives a stamp, which moves the clock to d, and brings its entry (R139)
 pub data Replica (c : Clock) (now : ℕ) (d : Clock) : Message → Entry → Type 0 where
   a-repl : (e : Entry) → receiveStep c (e .stamp .phys) (e .stamp .logical) now ≡ next d → Replica c now d (repl e) e
 
--- a local write whose stamp is not above that of the held entry of its key
+-- a local write whose stamp is not above that of the held entry of its key (R14)
 pub record OvertakenWrite (s : List ℕ) (c : Clock) (now : ℕ) (frame reply : List ℕ) : Type 0 where
   pub request : Message
   pub asks : Asks s c now frame reply request
@@ -176,7 +178,7 @@ pub record OvertakenWrite (s : List ℕ) (c : Clock) (now : ℕ) (frame reply : 
   pub is-held : find (entry .key) (entriesOf s) ≡ some held
   pub not-below : stampBelow (held .stamp) (entry .stamp) ≡ false
 
--- a write with which the distinct keys held would exceed the slots
+-- a write with which the distinct keys held would exceed the slots (R13)
 pub record FullWrite (s : List ℕ) (c : Clock) (now : ℕ) (frame reply : List ℕ) : Type 0 where
   pub request : Message
   pub asks : Asks s c now frame reply request
@@ -185,10 +187,10 @@ pub record FullWrite (s : List ℕ) (c : Clock) (now : ℕ) (frame reply : List 
   pub writes : LocalWrite c now moved request entry ⊎ Replica c now moved request entry
   pub exceeds : slotsOf s < length (putEntry entry (entriesOf s))
 
--- a call is refused with 7 exactly if it is such a local write
+-- a call is refused with 7 exactly if it is such a local write (R14)
 abbrev pub OvertakenExactly : Type 0
 OvertakenExactly = (s : List ℕ) (c : Clock) (now : ℕ) (frame reply : List ℕ) → handled s c now frame reply .refusal ≡ 7 ↔ OvertakenWrite s c now frame reply
 
--- and with 6 exactly if it is such a write
+-- and with 6 exactly if it is such a write (R13)
 abbrev pub FullExactly : Type 0
 FullExactly = (s : List ℕ) (c : Clock) (now : ℕ) (frame reply : List ℕ) → Bytes frame → handled s c now frame reply .refusal ≡ 6 ↔ FullWrite s c now frame reply

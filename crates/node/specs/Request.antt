@@ -12,7 +12,7 @@ use Rattle.frame.specs.declared.answer.Read.the-variants as read
 use Rattle.frame.specs.declared.answer.Wrote.{Wrote}
 use Rattle.frame.specs.declared.answer.Wrote.the-variants as wrote
 use Rattle.frame.specs.Message.{Message, ok, err}
-use Rattle.frame.specs.Layout.{frameOf}
+use Rattle.frame.specs.Layout.{maxFrame, frameOf}
 use Rattle.image.specs.Image.{sound}
 use Rattle.store.specs.Answer.{Answer}
 use Rattle.store.specs.Answer as answer
@@ -56,4 +56,4 @@ RepliesToOffer (answer.refused n) c next reply r reply′ = Refuses c n reply r 
 -- a request may be served: the store is sound, and the reply has room for any frame
 pub record Ready (store reply : List ℕ) : Type 0 where
   pub is-sound : sound store ≡ true
-  pub room : 600 ≤ length reply
+  pub room : maxFrame ≤ length reply

@@ -4,6 +4,7 @@ mod request;
 use clock::Clock;
 use entry::Refusal;
 use entry::TIME_LIMIT;
+use frame::MAX_FRAME;
 use frame::Read;
 use frame::read;
 use image::is_sound;
@@ -15,8 +16,6 @@ ghost use lib.Dec.{leb};
 ghost use Rattle.frame.specs.Reading.{typeIn};
 ghost use Rattle.node.specs.Answer.{Handles};
 
-// No frame is longer, so a reply buffer of this length has room for any reply.
-const MAX_FRAME: usize = 600;
 // The least TYPE of a reply.
 const FIRST_REPLY: u8 = 16;
 
@@ -47,6 +46,7 @@ fn is_reply(frame: &[u8]) -> bool
 pub fn handle(store: &mut [u8], clock: Clock, time: u64, frame: &[u8], reply: &mut [u8]) -> Handled
     ensures { λ r. ⌜ Handles (now (store .entry)) clock time (now (frame .entry)) (now (reply .entry)) r (now (store .exit)) (now (reply .exit)) ⌝ }
 {
+    // with less, a reply might not have room
     if reply.len() < MAX_FRAME {
         return Handled {
             clock,

@@ -28,6 +28,7 @@ ghost use Rattle.entry.specs.Refusal.{number};
 ghost use Rattle.entry.specs.Entry.{entryOf};
 ghost use Rattle.clock.specs.Clock.{sendStep, receiveStep};
 ghost use Rattle.frame.specs.Message.{ok, value as valueOf, notFound};
+ghost use Rattle.frame.specs.Layout.{maxFrame};
 ghost use Rattle.frame.specs.Reading.{messageIn};
 ghost use Rattle.frame.specs.Meaning.{Within};
 ghost use Rattle.store.specs.Answer.{answerOf};
@@ -66,7 +67,7 @@ fn count(wrote: Wrote) -> usize
 
 // A refusal, with its ERR frame in the reply.
 pub(crate) fn refuse(clock: Clock, refusal: Refusal, reply: &mut [u8]) -> Handled
-    requires { ⌜ 600 ≤ length (now reply) ⌝ }
+    requires { ⌜ maxFrame ≤ length (now reply) ⌝ }
     ensures { λ r. ⌜ Refuses clock (number refusal) (now (reply .entry)) r (now (reply .exit)) ⌝ }
 {
     let wrote = write_err(refusal.number(), reply);
@@ -79,7 +80,7 @@ pub(crate) fn refuse(clock: Clock, refusal: Refusal, reply: &mut [u8]) -> Handle
 
 // A write that was taken, with OK in the reply.
 fn accept(clock: Clock, reply: &mut [u8]) -> Handled
-    requires { ⌜ 600 ≤ length (now reply) ⌝ }
+    requires { ⌜ maxFrame ≤ length (now reply) ⌝ }
     ensures { λ r. ⌜ Replies clock ok 0 (now (reply .entry)) r (now (reply .exit)) ⌝ }
 {
     let wrote = write_ok(reply);
@@ -92,7 +93,7 @@ fn accept(clock: Clock, reply: &mut [u8]) -> Handled
 
 // A value that was found, with VALUE in the reply.
 fn give_value(clock: Clock, value: &[u8], reply: &mut [u8]) -> Handled
-    requires { ⌜ (600 ≤ length (now reply)) × (length (now value) ≤ 512) ⌝ }
+    requires { ⌜ (maxFrame ≤ length (now reply)) × (length (now value) ≤ 512) ⌝ }
     ensures { λ r. ⌜ Replies clock (valueOf (now (value .entry))) 0 (now (reply .entry)) r (now (reply .exit)) ⌝ }
 {
     let wrote = write_value(value, reply);
@@ -105,7 +106,7 @@ fn give_value(clock: Clock, value: &[u8], reply: &mut [u8]) -> Handled
 
 // No value, with NOTFOUND in the reply.
 fn give_nothing(clock: Clock, reply: &mut [u8]) -> Handled
-    requires { ⌜ 600 ≤ length (now reply) ⌝ }
+    requires { ⌜ maxFrame ≤ length (now reply) ⌝ }
     ensures { λ r. ⌜ Replies clock notFound 0 (now (reply .entry)) r (now (reply .exit)) ⌝ }
 {
     let wrote = write_not_found(reply);
@@ -137,7 +138,7 @@ fn get(store: &[u8], clock: Clock, key: &[u8], reply: &mut [u8]) -> Handled
 // What is replied to an offer: OK also where the held entry stays. The clock goes on to `next`
 // unless the offer is refused.
 fn reply_to_offer(answer: Offered, clock: Clock, next: Clock, reply: &mut [u8]) -> Handled
-    requires { ⌜ 600 ≤ length (now reply) ⌝ }
+    requires { ⌜ maxFrame ≤ length (now reply) ⌝ }
     ensures { λ r. ⌜ RepliesToOffer (answerOf answer) clock next (now (reply .entry)) r (now (reply .exit)) ⌝ }
 {
     match answer {

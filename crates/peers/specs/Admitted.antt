@@ -9,12 +9,12 @@ use Rattle.peers.specs.declared.Admission.{Admission}
 use Rattle.peers.specs.declared.Admission.the-variants.{Home, Standing}
 use Rattle.peers.specs.Table.{rowsOf}
 
--- HOME admits every peer with a row; STANDING admits those not DOWN
+-- HOME admits every peer with a row; STANDING admits those not DOWN (R84, R85)
 abbrev pub admitsRow : Admission → Row → Bool
 admitsRow Home r = true
 admitsRow Standing r = not (eqb (r .state) 2)
 
--- some row has the id and is admitted
+-- some row has the id and is admitted (R84, R85)
 unfoldable pub admitsAmong : Admission → List Row → ℕ → Bool
 admitsAmong a [] i = false
 admitsAmong a (r ∷ rows) i = (eqb (r .id) i && admitsRow a r) || admitsAmong a rows i
@@ -27,6 +27,6 @@ unfoldable pub valuesFrom : (ℕ → Bool) → ℕ → ℕ → List Bool
 valuesFrom f k zero = []
 valuesFrom f k (suc n) = f k ∷ valuesFrom f (suc k) n
 
--- for each id from 0 to 255, whether it is admitted
+-- for each id from 0 to 255, whether it is admitted (R84, R85)
 unfoldable pub admittedFlags : Admission → PeerTable → List Bool
 admittedFlags a t = valuesFrom (admits a t) 0 256

@@ -16,7 +16,9 @@ use Rattle.store.specs.Create.{createRefusal, freshStore, afterCreate}
 use Rattle.points.specs.Points.{AllPointsHold}
 
 pub all-points-hold : AllPointsHold
-unfolding raise withSkew sendStep receiveInRange receiveStep ageAt inRange tickState tickRow hasRow heldState onOthers distinct ownAlive rowsInRange soundTable unlessRefused withRows tickAnswer afterTick admitsAmong admits elem filter firsts countBelow ascending placesInRange soundRing from before around met ownersOf admittedWithPlace badRequest ownersAnswer ownersOutput be zeros header slots image createRefusal freshStore afterCreate
+unfolding raise withSkew sendStep receiveInRange receiveStep ageAt inRange tickState tickRow hasRow heldState onOthers distinct ownAlive rowsInRange soundTable
+    unlessRefused withRows tickAnswer afterTick admitsAmong admits elem filter firsts countBelow ascending placesInRange soundRing from before around met
+    ownersOf admittedWithPlace badRequest ownersAnswer ownersOutput be zeros header slots image createRefusal freshStore afterCreate
 all-points-hold = (
   refl,
   (

@@ -1,4 +1,4 @@
--- The points that are proved: a single table, and the statement that every point of it holds.
+-- The points that are proved: a single table, and the statement that every point of it holds (R210).
 use Prim.Native.Nat.{ℕ}
 use mathlib.Core.Path.{_≡_}
 use mathlib.Core.List.{List, [], _∷_}
@@ -28,11 +28,11 @@ peer i s seen = record { id = i; address = 0; port = 0; state = s; incarnation =
 abbrev pub threePeers : ℕ → ℕ → PeerTable
 threePeers two three = record { rows = peer 1 0 0 ∷ peer 2 two 0 ∷ peer 3 three 0 ∷ replicate 7 noRow; count = 3 }
 
--- node 2 is ALIVE and was last seen at a time
+-- node 2 is ALIVE and was last seen at a time (R222)
 abbrev pub watched : ℕ → PeerTable
 watched seen = record { rows = peer 1 0 0 ∷ peer 2 0 seen ∷ replicate 8 noRow; count = 2 }
 
--- places (token, node) (100, 1), (200, 2), (200, 3), (900, 1), vnode 0 but 1 for the last
+-- places (token, node) (100, 1), (200, 2), (200, 3), (900, 1), vnode 0 but 1 for the last (R218 to R221)
 abbrev pub places : List ℕ
 places = placeNumber 100 1 0 ∷ placeNumber 200 2 0 ∷ placeNumber 200 3 0 ∷ placeNumber 900 1 1 ∷ []
 
@@ -40,16 +40,16 @@ places = placeNumber 100 1 0 ∷ placeNumber 200 2 0 ∷ placeNumber 200 3 0 ∷
 abbrev pub lent : ℕ → List ℕ
 lent n = replicate n 255
 
-pub data Point : Type 0 where
-  -- a clock that sends at `now`, and the clock after it
+pub data Point : Type 0 where  -- (R210, R212 to R216, R218 to R223)
+  -- a clock that sends at `now`, and the clock after it (R212 to R214)
   send : (c : Clock) (now : ℕ) (after : Clock) → Point
-  -- a clock that receives (p, l) at `now`, and the clock after it
+  -- a clock that receives (p, l) at `now`, and the clock after it (R215, R216)
   receive : (c : Clock) (p l now : ℕ) (after : Clock) → Point
-  -- the peers, which of them are admitted, a position and r; the answer and the three lent bytes after it
+  -- the peers, which of them are admitted, a position and r; the answer and the three lent bytes after it (R218 to R221)
   walk : (peers : PeerTable) (a : Admission) (x r : ℕ) (answer : Answer) (after : List ℕ) → Point
-  -- an ALIVE peer last seen at a time, a tick at `now`, and the state after it
+  -- an ALIVE peer last seen at a time, a tick at `now`, and the state after it (R222)
   tick : (seen now state : ℕ) → Point
-  -- a number of slots, and the bytes of the new store
+  -- a number of slots, and the bytes of the new store (R223)
   fresh : (slots : ℕ) (bytes : List ℕ) → Point
 
 abbrev pub Holds : Point → Type 0
@@ -63,26 +63,26 @@ abbrev pub AllHold : List Point → Type 0
 AllHold [] = Unit
 AllHold (p ∷ ps) = Holds p × AllHold ps
 
-abbrev pub points : List Point
+abbrev pub points : List Point  -- (R210, R212 to R216, R218 to R223)
 points =
-    send (clockAt 1000 5 0) 1000 (clockAt 1000 6 0)
-    ∷ send (clockAt 1000 5 0) 1001 (clockAt 1001 0 0)
-    ∷ send (clockAt 1000 5 0) 400 (clockAt 1000 6 0)
-    ∷ receive (clockAt 1000 5 0) 3000 2 1000 (clockAt 3000 3 0)
-    ∷ receive (clockAt 1000 5 0) 3001 2 1000 (clockAt 1000 6 1)
+    send (clockAt 1000 5 0) 1000 (clockAt 1000 6 0)  -- (R212)
+    ∷ send (clockAt 1000 5 0) 1001 (clockAt 1001 0 0)  -- (R213)
+    ∷ send (clockAt 1000 5 0) 400 (clockAt 1000 6 0)  -- (R214)
+    ∷ receive (clockAt 1000 5 0) 3000 2 1000 (clockAt 3000 3 0)  -- (R215)
+    ∷ receive (clockAt 1000 5 0) 3001 2 1000 (clockAt 1000 6 1)  -- (R216)
     -- all ALIVE, so that HOME and STANDING admit the same
-    ∷ walk (threePeers 0 0) Home 200 2 (gives 2) (2 ∷ 3 ∷ lent 1)
-    ∷ walk (threePeers 0 0) Standing 200 2 (gives 2) (2 ∷ 3 ∷ lent 1)
-    ∷ walk (threePeers 0 0) Home 201 2 (gives 2) (1 ∷ 2 ∷ lent 1)
-    ∷ walk (threePeers 0 0) Standing 201 2 (gives 2) (1 ∷ 2 ∷ lent 1)
-    ∷ walk (threePeers 0 0) Home 901 3 (gives 3) (1 ∷ 2 ∷ 3 ∷ [])
-    ∷ walk (threePeers 0 0) Standing 901 3 (gives 3) (1 ∷ 2 ∷ 3 ∷ [])
+    ∷ walk (threePeers 0 0) Home 200 2 (gives 2) (2 ∷ 3 ∷ lent 1)  -- (R218)
+    ∷ walk (threePeers 0 0) Standing 200 2 (gives 2) (2 ∷ 3 ∷ lent 1)  -- (R218)
+    ∷ walk (threePeers 0 0) Home 201 2 (gives 2) (1 ∷ 2 ∷ lent 1)  -- (R219)
+    ∷ walk (threePeers 0 0) Standing 201 2 (gives 2) (1 ∷ 2 ∷ lent 1)  -- (R219)
+    ∷ walk (threePeers 0 0) Home 901 3 (gives 3) (1 ∷ 2 ∷ 3 ∷ [])  -- (R220)
+    ∷ walk (threePeers 0 0) Standing 901 3 (gives 3) (1 ∷ 2 ∷ 3 ∷ [])  -- (R220)
     -- node 3 DOWN: TOO_FEW
-    ∷ walk (threePeers 0 2) Standing 901 3 (refuses 10) (lent 3)
-    ∷ tick 0 4999 0
-    ∷ tick 0 5000 1
-    ∷ tick 0 15000 2
-    ∷ fresh 2 (0 ∷ 2 ∷ 0 ∷ 0 ∷ 2 ∷ 84 ∷ 0 ∷ 16 ∷ replicate 1200 0)
+    ∷ walk (threePeers 0 2) Standing 901 3 (refuses 10) (lent 3)  -- (R221)
+    ∷ tick 0 4999 0  -- (R222)
+    ∷ tick 0 5000 1  -- (R222)
+    ∷ tick 0 15000 2  -- (R222)
+    ∷ fresh 2 (0 ∷ 2 ∷ 0 ∷ 0 ∷ 2 ∷ 84 ∷ 0 ∷ 16 ∷ replicate 1200 0)  -- (R223)
     ∷ []
 
 abbrev pub AllPointsHold : Type 0

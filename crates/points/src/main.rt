@@ -4,6 +4,7 @@ use checksum::fmix32;
 use clock::Clock;
 use clock::SendAnswer;
 use entry::Refusal;
+use frame::MAX_FRAME;
 use frame::Wrote;
 use frame::write_get;
 use frame::write_not_found;
@@ -14,21 +15,13 @@ fn print(text: &[u8]) {
     io::write_all(STDOUT_FILENO, text);
 }
 
-fn print_refusal(refusal: Refusal) {
-    print(b"refusal ");
-    let number = refusal.number();
-    io::print_decimal(STDOUT_FILENO, number as u64);
-    print(b"\n");
+fn print_number(number: u64) {
+    io::print_decimal(STDOUT_FILENO, number);
 }
 
-fn print_wrote(wrote: Wrote) {
-    match wrote {
-        Wrote::Bytes(n) => {
-            io::print_decimal(STDOUT_FILENO, n as u64);
-            print(b" bytes\n");
-        }
-        Wrote::Refused(refusal) => print_refusal(refusal),
-    }
+fn print_refusal(refusal: Refusal) {
+    print(b"refusal ");
+    print_number(refusal.number() as u64);
 }
 
 fn print_byte(byte: u8) {
@@ -74,6 +67,22 @@ fn print_checksums() {
     );
 }
 
+fn print_clock(clock: Clock) {
+    let logical = clock.logical;
+    let node = clock.node;
+    let skew = clock.skew;
+    print(b", clock ");
+    print_number(clock.phys);
+    print(b" ");
+    print_number(logical as u64);
+    print(b" ");
+    print_number(node as u64);
+    print(b" ");
+    print_number(skew as u64);
+    print(b"\n");
+}
+
+// With the clock that is handed back, which shows the one that came in.
 fn print_send_at_p() {
     print(b"clock at L = 65535, send at P: ");
     let clock = Clock {
@@ -82,42 +91,68 @@ fn print_send_at_p() {
         node: 1,
         skew: 0,
     };
-    let sent = clock.send(1000);
+    let sent = clock.send(clock.phys);
     let answer = sent.answer;
     match answer {
-        SendAnswer::Stamped(_) => print(b"a stamp\n"),
+        SendAnswer::Stamped(_) => print(b"a stamp"),
         SendAnswer::Refused(refusal) => print_refusal(refusal),
     }
+    print_clock(sent.clock);
+}
+
+// What a writer answered, and the checksum of the whole buffer that it was lent.
+fn print_wrote(wrote: Wrote, out: &[u8]) {
+    match wrote {
+        Wrote::Bytes(n) => {
+            print_number(n as u64);
+            print(b" bytes");
+        }
+        Wrote::Refused(refusal) => print_refusal(refusal),
+    }
+    print(b", buffer ");
+    print_word(crc32c(out));
 }
 
 fn print_get() {
-    let mut out = [0u8; 11];
+    let mut out = [0u8; MAX_FRAME];
     print(b"get k1: ");
-    print_wrote(write_get(b"k1", &mut out));
-    print_bytes(&out);
+    print_wrote(write_get(b"k1", &mut out), &out);
+    print_bytes(&out[0..11]);
 }
 
 fn print_not_found() {
-    let mut out = [0u8; 8];
+    let mut out = [0u8; MAX_FRAME];
     print(b"not found: ");
-    print_wrote(write_not_found(&mut out));
-    print_bytes(&out);
+    print_wrote(write_not_found(&mut out), &out);
+    print_bytes(&out[0..8]);
 }
 
-fn print_value_limits() {
-    let mut out = [0u8; 600];
-    print(b"value of 512: ");
-    print_wrote(write_value(&[118u8; 512], &mut out));
-    print(b"value of 513: ");
-    print_wrote(write_value(&[118u8; 513], &mut out));
+fn print_length(name: &[u8], n: usize) {
+    print(name);
+    print(b" of ");
+    print_number(n as u64);
+    print(b": ");
 }
 
-fn print_key_limits() {
-    let mut out = [0u8; 600];
-    print(b"key of 64: ");
-    print_wrote(write_get(&[107u8; 64], &mut out));
-    print(b"key of 65: ");
-    print_wrote(write_get(&[107u8; 65], &mut out));
+fn print_value(value: &[u8]) {
+    let mut out = [0u8; MAX_FRAME];
+    print_length(b"value", value.len());
+    print_wrote(write_value(value, &mut out), &out);
+}
+
+fn print_key(key: &[u8]) {
+    let mut out = [0u8; MAX_FRAME];
+    print_length(b"key", key.len());
+    print_wrote(write_get(key, &mut out), &out);
+}
+
+fn print_limits() {
+    let value = [118u8; 513];
+    print_value(&value[0..512]);
+    print_value(&value);
+    let key = [107u8; 65];
+    print_key(&key[0..64]);
+    print_key(&key);
 }
 
 fn print_mixed() {
@@ -130,7 +165,6 @@ fn main() {
     print_send_at_p();
     print_get();
     print_not_found();
-    print_value_limits();
-    print_key_limits();
+    print_limits();
     print_mixed();
 }

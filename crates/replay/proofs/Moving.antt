@@ -51,7 +51,7 @@ module _ (b : List ℕ) (at end : ℕ) (order : at ≤ end) (within : end ≤ le
 
   pub moved-next : (to : ℕ) (s : List ℕ) → at + to < end → s ≡ moved b at end to → set s to (getD s (at + to) 0) ≡ moved b at end (to + 1)
   unfolding moved
-  moved-next to s h e = rw e (ap (set (moved b at end to) to) (moved-byte to h) ∙ copy-step (front b at end) b to (omega arith) front-long)
+  moved-next to s h e = rw e (ap (set (moved b at end to) to) (moved-byte to h) ∙ copy-step (front b at end) b to (omega arith) (omega (arith, front-long)))
 
 -- what stands before a part stays when the part is written
 pub before-part : (a k : ℕ) (b ys : List ℕ) → a ≤ length b → take a (putMid a k b ys) ≡ take a b

@@ -13,6 +13,7 @@ use Rattle.wire.proofs.Tests.{clash}
 use Rattle.wire.proofs.Fields.{field-part}
 use Rattle.clock.specs.declared.Clock.{Clock}
 use Rattle.clock.specs.Clock.{freshClock}
+use Rattle.image.specs.Layout.{mostSlots, slotStart}
 use Rattle.store.specs.Create.{createRefusal, afterCreate}
 use Rattle.replayer.specs.declared.Next.{Next}
 use Rattle.replayer.specs.declared.Next.the-variants.{Read, Write, Stop}
@@ -74,14 +75,14 @@ module _ (store reply input output : List ℕ) (s : State) (f : Fits input outpu
       omega (arith, l .filled-is, v .output-left, f .outputs)
 
   -- where more is to be read, less than a record is left
-  read-room : p .next ≡ Read → s .end - (s .at + p .taken) < 606
+  read-room : p .next ≡ Read → s .end - (s .at + p .taken) < length input
   unfolding x came before
   read-room h =
       let v = reads-for-a-record (s .ended) came (length output) before (sym (l .next-is) ∙ h) in
-      omega (arith, v .1, length-drop (x .taken) came, came-long, l .taken-is)
+      omega (arith, v .1, length-drop (x .taken) came, came-long, l .taken-is, f .inputs)
 
   pub can-go-on : CanGoOn input s p
-  can-go-on = record { order = taken-within; within = f .within; room = λ h. omega (arith, read-room h, f .inputs) }
+  can-go-on = record { order = taken-within; within = f .within; room = read-room }
 
   written-is : (i : Stream) → afterCall i came x ≡ record {
     kept = record { store = store′; clock = p .clock; reply = reply′ };
@@ -219,7 +220,7 @@ pub record Reached (store reply input : List ℕ) (s : State) : Type 0 where
   pub history : History
   pub stands : Stands history store reply input s
 
--- a buffer of 59,616 bytes is made a store of 100 slots
-pub created : (b s : List ℕ) → length b ≡ 59616 → s ≡ afterCreate b 100 → s ≡ start .store
+-- a buffer of the right length is made a store of the most slots
+pub created : (b s : List ℕ) → length b ≡ slotStart mostSlots → s ≡ afterCreate b mostSlots → s ≡ start .store
 unfolding afterCreate createRefusal start
-created b s n h = h ∙ rw (eq-eqb (length b) 59616 n)
+created b s n h = h ∙ rw (eq-eqb (length b) (slotStart mostSlots) n)

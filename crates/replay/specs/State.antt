@@ -42,7 +42,7 @@ pub record Stands (h : History) (store reply input : List ℕ) (s : State) : Typ
   pub no-more : s .ended ≡ true → h .came ≡ []
   pub goes : s .going ≡ true → isStop (drained (h .calls) (h .rooms) .next) ≡ false
 
--- a turn is one call, and reading what more came
+-- a turn is one call, and reading what more came (R164)
 abbrev pub TurnIsOneCall : List ℕ → List ℕ → List ℕ → State → List ℕ → List ℕ → List ℕ → State → Type 0
 TurnIsOneCall store reply input s store′ reply′ input′ r =
     (h : History) → Stands h store reply input s → (more : List ℕ) × Stands (oneMore (s .ended) h more) store′ reply′ input′ r

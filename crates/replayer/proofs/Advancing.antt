@@ -7,6 +7,7 @@ use native.Mathlib.Omega.{arith}
 use lib.ListN.{length, drop, length-append, length-drop}
 use lib.Dec.{eqb}
 use Rattle.wire.proofs.Tests.{cases}
+use Rattle.frame.specs.Layout.{maxFrame}
 use Rattle.journal.specs.Journal.{Piece, whole, noRecord, pieceOf, recordAt}
 use Rattle.journal.proofs.Pieces.{whole-within}
 use Rattle.replayer.specs.declared.Next.{Next}
@@ -16,7 +17,7 @@ use Rattle.replayer.specs.Advance.{Replay, answered, waiting, stopped, t
 use Rattle.replayer.proofs.Filling.{length-err}
 use Rattle.replayer.proofs.Answers.{reply-short}
 
-last-short : (n : ℕ) → length (lastReply n) ≤ 600
+last-short : (n : ℕ) → length (lastReply n) ≤ maxFrame
 unfolding lastReply
 last-short n = cases (eqb n 0) (λ h. rw h (omega arith)) (λ h. rw h (omega (arith, length-err n)))
 
@@ -114,7 +115,7 @@ module _ (ended : Bool) (input : List ℕ) where
   pub record Moves (p q : Replay) : Type 0 where
     pub within : q .taken ≤ length input
     pub longer : length (p .output) ≤ length (q .output)
-    pub room : length (q .output) ≤ length (p .output) + 600
+    pub room : length (q .output) ≤ length (p .output) + maxFrame
     pub less : turnsLeft input (q .taken) (q .next) < turnsLeft input (p .taken) Write
 
   pub turn-moves : (p : Replay) → p .taken ≤ length input → Moves p (turn ended input p)

@@ -11,7 +11,7 @@ use Rattle.wire.proofs.Tests.{cases}
 use Rattle.clock.specs.declared.Clock.{Clock}
 use Rattle.frame.specs.Message.{Message, err}
 use Rattle.frame.specs.Reading.{message, readFrame}
-use Rattle.frame.specs.Layout.{frameOf}
+use Rattle.frame.specs.Layout.{maxFrame, frameOf}
 use Rattle.node.specs.Handler.{Served, done, refused, serveFrame, over, settle, handled}
 use Rattle.node.specs.declared.Handled.{Handled}
 use Rattle.node.specs.Answer.{Handles}
@@ -21,11 +21,11 @@ use Rattle.replayer.specs.Replies.{Kept, answer, after, replyTo}
 
 module _ (s : List ℕ) (c : Clock) (t : ℕ) (f b : List ℕ) where
   pub written-within : handled s c t f b .written ≤ length b
-  written-within = cases (ltb (length b) 600)
+  written-within = cases (ltb (length b) maxFrame)
       (λ p. short p)
-      (λ p. omega (arith, ltb-false (length b) 600 p, reply-at-most-600 s c t f b))
+      (λ p. omega (arith, ltb-false (length b) maxFrame p, reply-at-most-600 s c t f b))
     where
-      short : ltb (length b) 600 ≡ true → handled s c t f b .written ≤ length b
+      short : ltb (length b) maxFrame ≡ true → handled s c t f b .written ≤ length b
       short p = unfold handled in rw p (omega arith)
 
   settled-long : (x : Served) → settle s c b x .written ≤ length b → length (settle s c b x .reply) ≡ length b
@@ -35,7 +35,7 @@ module _ (s : List ℕ) (c : Clock) (t : ℕ) (f b : List ℕ) where
 
   pub reply-long : length (handled s c t f b .reply) ≡ length b
   unfolding handled
-  reply-long = cases (ltb (length b) 600)
+  reply-long = cases (ltb (length b) maxFrame)
       (λ p. rw p)
       (λ p. rw p (settled-long (serveFrame s c t f) (rw p at written-within)))
 
@@ -44,19 +44,19 @@ module _ (s : List ℕ) (c : Clock) (t : ℕ) (f b : List ℕ) where
     pub call-within : h .written ≤ length b′
     call-within = rw (g .written-is, g .reply-is, reply-long) written-within
 
-    pub call-short : length (take (h .written - 0) b′) ≤ 600
+    pub call-short : length (take (h .written - 0) b′) ≤ maxFrame
     call-short = rw length-take (omega (arith, g .written-is, reply-at-most-600 s c t f b))
 
 module _ (k : Kept) (r : TimedFrame) where
-  pub reply-short : length (replyTo k r) ≤ 600
+  pub reply-short : length (replyTo k r) ≤ maxFrame
   unfolding replyTo answer
   reply-short = rw length-take (omega (arith, reply-at-most-600 (k .store) (k .clock) (r .time) (r .frame) (k .reply)))
 
   -- a reply is a frame where it has room, and so has the next one
-  pub reply-reads : 600 ≤ length (k .reply) → (m : Message) × (readFrame (replyTo k r) ≡ message m)
+  pub reply-reads : maxFrame ≤ length (k .reply) → (m : Message) × (readFrame (replyTo k r) ≡ message m)
   unfolding replyTo answer
   reply-reads h = let b = reply-reads-back (k .store) (k .clock) (r .time) (r .frame) (k .reply) h in (b .says, b .reads)
 
-  pub room-kept : 600 ≤ length (k .reply) → 600 ≤ length (after k r .reply)
+  pub room-kept : maxFrame ≤ length (k .reply) → maxFrame ≤ length (after k r .reply)
   unfolding after answer
   room-kept h = omega (arith, reply-long (k .store) (k .clock) (r .time) (r .frame) (k .reply))

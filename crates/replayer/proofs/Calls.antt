@@ -8,6 +8,7 @@ use lib.ListN.{length, drop}
 use lib.Dec.{leb}
 use borrow.Author.Tests.{leb-true, le-leb}
 use Rattle.wire.proofs.Tests.{and-true}
+use Rattle.frame.specs.Layout.{maxFrame}
 use Rattle.journal.specs.Journal.{noRecord, pieceOf}
 use Rattle.journal.proofs.Pieces.{never, begun-is-short}
 use Rattle.replayer.specs.declared.Next.the-variants.{Read, Write}
@@ -17,13 +18,16 @@ use Rattle.replayer.specs.Meaning.{CallsGoOn, Within, CallsStayWithin, C
 use Rattle.replayer.proofs.Advancing.{turn-cases, turn-moves, advance-keeps, advanced-keeps, advance-ends}
 
 -- a turn is made only where the last one was, and any reply has room
-pub goes-on : (room : ℕ) (p : Replay) → goesOn room p ≡ true → (isWrite (p .next) ≡ true) × (600 ≤ room - length (p .output))
+pub goes-on : (room : ℕ) (p : Replay) → goesOn room p ≡ true → (isWrite (p .next) ≡ true) × (maxFrame ≤ room - length (p .output))
 unfolding goesOn
-goes-on room p g = let a = and-true (isWrite (p .next)) (leb 600 (room - length (p .output))) g in (a .0, leb-true 600 (room - length (p .output)) (a .1))
+goes-on room p g =
+    let left = room - length (p .output) in
+    let a = and-true (isWrite (p .next)) (leb maxFrame left) g in
+    (a .0, leb-true maxFrame left (a .1))
 
-starts : (room : ℕ) (k : Kept) → 600 ≤ room → goesOn room (record { kept = k; taken = 0; output = []; next = Write }) ≡ true
+starts : (room : ℕ) (k : Kept) → maxFrame ≤ room → goesOn room (record { kept = k; taken = 0; output = []; next = Write }) ≡ true
 unfolding goesOn
-starts room k r = le-leb 600 (room - 0) (omega arith)
+starts room k r = le-leb maxFrame (room - 0) (omega arith)
 
 pub calls-go-on : CallsGoOn
 unfolding advanced

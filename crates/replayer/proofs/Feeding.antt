@@ -7,6 +7,7 @@ use native.Mathlib.Omega.{arith}
 use mathlib.Core.Logic.{_⊎_, inl, inr}
 use lib.ListN.{length, drop, length-append, length-drop}
 use Rattle.wire.proofs.Tests.{cases}
+use Rattle.frame.specs.Layout.{maxFrame}
 use Rattle.journal.specs.Journal.{noRecord, pieceOf, journalOf}
 use Rattle.journal.proofs.Pieces.{never}
 use Rattle.replayer.specs.declared.Next.{Next}
@@ -147,7 +148,7 @@ stop-stays (n ∷ ns) s h = stop-stays ns (called true s (noMore n)) (rw stopped
     stopped : isStop (s .next) ≡ true
     stopped = ap isStop h
 
-shorter-or-stopped : (s : Stream) (n : ℕ) → 600 ≤ n → isStop (s .next) ≡ false
+shorter-or-stopped : (s : Stream) (n : ℕ) → maxFrame ≤ n → isStop (s .next) ≡ false
     → (called true s (noMore n) .next ≡ Stop) ⊎ (length (called true s (noMore n) .rest) < length (s .rest))
 unfolding called afterCall
 shorter-or-stopped s n r h = rw h (go (x .next) refl)

@@ -14,7 +14,7 @@ use Rattle.wire.proofs.Fill.{padded-exact}
 use Rattle.wire.proofs.Fields.{rest}
 use Rattle.wire.proofs.Number.{length-be}
 use Rattle.frame.specs.Message.{err, messageRefusal}
-use Rattle.frame.specs.Layout.{typeOf, body, frameOf}
+use Rattle.frame.specs.Layout.{maxFrame, typeOf, body, frameOf}
 use Rattle.frame.specs.Writing.{writeRefusal, afterWrite}
 use Rattle.frame.proofs.Envelopes.{length-envelope}
 use Rattle.frame.proofs.Bodies.{err-taken}
@@ -46,7 +46,7 @@ length-err n = length-envelope (typeOf (err n)) (body (err n)) ∙ ap (λ (k : �
 pub err-3-taken : messageRefusal (err 3) ≡ 0
 err-3-taken = let e : _≡_ {A = ℕ} 3 0 → ⊥ = omega arith in err-taken 3 e (omega arith)
 
-pub err-put : (a : ℕ) (o ys : List ℕ) → a + 600 ≤ length o → ys ≡ afterWrite (messageRefusal (err 3)) (frameOf (err 3)) (midOf a (length o - a) o)
+pub err-put : (a : ℕ) (o ys : List ℕ) → a + maxFrame ≤ length o → ys ≡ afterWrite (messageRefusal (err 3)) (frameOf (err 3)) (midOf a (length o - a) o)
     → putMid a (length o - a) o ys ≡ take a o ++ frameOf (err 3) ++ drop (a + 9) o
 unfolding afterWrite writeRefusal
 err-put a o ys l y =

@@ -7,7 +7,7 @@ use native.Mathlib.Omega.{arith}
 use lib.ListN.{length, length-append}
 use Rattle.wire.proofs.Fill.{length-zeros}
 use Rattle.frame.specs.Message.{Message, err}
-use Rattle.frame.specs.Layout.{frameOf}
+use Rattle.frame.specs.Layout.{maxFrame, frameOf}
 use Rattle.frame.specs.Reading.{message, readFrame}
 use Rattle.frame.proofs.RoundTrips.{written-reads-back}
 use Rattle.journal.specs.Journal.{TimedFrame, journalOf}
@@ -32,7 +32,7 @@ unfolding framesTo
 frames-count [] k = refl
 frames-count (r ∷ rs) k = omega (arith, frames-count rs (after k r))
 
-frames-read : (rs : List TimedFrame) (k : Kept) → 600 ≤ length (k .reply) → AllRead (framesTo k rs)
+frames-read : (rs : List TimedFrame) (k : Kept) → maxFrame ≤ length (k .reply) → AllRead (framesTo k rs)
 unfolding framesTo
 frames-read [] k h = tt
 frames-read (r ∷ rs) k h = (reply-reads k r h, frames-read rs (after k r) (room-kept k r h))
@@ -47,9 +47,9 @@ read-more : (fs : List (List ℕ)) (f : List ℕ) (m : Message) → AllRead fs �
 read-more [] f m a h = ((m, h), tt)
 read-more (g ∷ fs) f m a h = (a .0, read-more fs f m (a .1) h)
 
-start-room : 600 ≤ length (start .reply)
+start-room : maxFrame ≤ length (start .reply)
 unfolding start
-start-room = omega (arith, length-zeros 600)
+start-room = omega (arith, length-zeros maxFrame)
 
 pub one-frame-for-each-record : OneFrameForEachRecord
 unfolding replies repliesFrom lastReply

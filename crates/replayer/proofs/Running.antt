@@ -11,6 +11,7 @@ use lib.Dec.{leb}
 use borrow.Author.Tests.{leb-true}
 use Rattle.wire.proofs.Tests.{and-true}
 use Rattle.clock.specs.declared.Clock.{Clock}
+use Rattle.frame.specs.Layout.{maxFrame}
 use Rattle.replayer.specs.declared.Next.the-variants.{Write}
 use Rattle.replayer.specs.declared.Progress.{Progress}
 use Rattle.replayer.specs.Advance.{Replay, turn, isWrite, goesOn, advanceWithin, advanced, replayOf, Fits, Leaves, Advances}
@@ -54,15 +55,15 @@ module _ (store₀ input reply₀ output₀ : List ℕ) (ended : Bool) (clock : 
 
   module _ (store reply output : List ℕ) (p : Progress) (i : Running store reply output p) where
     -- the code's test is the definition's
-    test-is : goesOn (length output₀) (replayOf store reply output p) ≡ (isWrite (p .next) && leb 600 (length output₀ - p .filled))
+    test-is : goesOn (length output₀) (replayOf store reply output p) ≡ (isWrite (p .next) && leb maxFrame (length output₀ - p .filled))
     unfolding goesOn
     test-is = rw (length-take-le (p .filled) output (omega (arith, i .filled, i .outputs)))
 
-    module _ (b : Bool) (e : b ≡ (isWrite (p .next) && leb 600 (length output₀ - p .filled))) where
+    module _ (b : Bool) (e : b ≡ (isWrite (p .next) && leb maxFrame (length output₀ - p .filled))) where
       pub running-fits : b ≡ true → Fits input output p
       running-fits t =
-          let a = and-true (isWrite (p .next)) (leb 600 (length output₀ - p .filled)) (sym e ∙ t) in
-          let n = leb-true 600 (length output₀ - p .filled) (a .1) in
+          let a = and-true (isWrite (p .next)) (leb maxFrame (length output₀ - p .filled)) (sym e ∙ t) in
+          let n = leb-true maxFrame (length output₀ - p .filled) (a .1) in
           record { within = i .within; room = omega (arith, i .outputs, i .filled) }
 
       goes : b ≡ true → goesOn (length output₀) (replayOf store reply output p) ≡ true
@@ -101,7 +102,7 @@ module _ (store₀ input reply₀ output₀ : List ℕ) (ended : Bool) (clock : 
           pub running-less : turnsLeft input (r .taken) (r .next) < turnsLeft input (p .taken) (p .next)
           running-less =
               let m = turn-moves ended input (replayOf store reply output p) (i .within) in
-              let w = and-true (isWrite (p .next)) (leb 600 (length output₀ - p .filled)) (sym e ∙ t) in
+              let w = and-true (isWrite (p .next)) (leb maxFrame (length output₀ - p .filled)) (sym e ∙ t) in
               rw (l .taken-is, l .next-is, w .0) (m .less)
 
           pub running-again : length output′ ≡ length output → length store′ ≡ length store → length reply′ ≡ length reply → Running store′ reply′ output′ r

@@ -6,6 +6,7 @@ use mathlib.Core.List.{List, [], _++_}
 use lib.ListN.{length, take, drop}
 use lib.Dec.{leb}
 use Rattle.clock.specs.declared.Clock.{Clock}
+use Rattle.frame.specs.Layout.{maxFrame}
 use Rattle.journal.specs.Journal.{Piece, whole, noRecord, pieceOf, TimedFrame, recordAt}
 use Rattle.replayer.specs.declared.Next.{Next}
 use Rattle.replayer.specs.declared.Next.the-variants.{Read, Write, Stop}
@@ -21,7 +22,7 @@ pub record Replay : Type 0 where
   pub next : Next
 
 -- ---- a turn
--- a record of e bytes is answered
+-- a record of e bytes is answered (R164)
 unfoldable pub answered : Replay → TimedFrame → ℕ → Replay
 answered p r e = record { kept = after (p .kept) r; taken = p .taken + e; output = p .output ++ replyTo (p .kept) r; next = Write }
 
@@ -32,7 +33,7 @@ unfoldable pub stopped : Replay → ℕ → Replay
 stopped p n = record { kept = p .kept; taken = p .taken; output = p .output ++ lastReply n; next = Stop }
 
 -- where there is no whole record, more input is waited for, unless it could not make one or the
--- input has ended
+-- input has ended (R165, R166)
 unfoldable pub turnOn : Bool → Replay → List ℕ → Piece → Replay
 turnOn ended p s (whole t e) = answered p (recordAt t e s) e
 turnOn ended p s (noRecord more n) = cond (more && not ended) (waiting p) (stopped p n)
@@ -48,14 +49,14 @@ isWrite Stop = false
 
 -- turns go on while none has found an end and the output, of this length, has room for any reply
 unfoldable pub goesOn : ℕ → Replay → Bool
-goesOn room p = isWrite (p .next) && leb 600 (room - length (p .output))
+goesOn room p = isWrite (p .next) && leb maxFrame (room - length (p .output))
 
 -- up to n turns
 unfoldable pub advanceWithin : ℕ → Bool → List ℕ → ℕ → Replay → Replay
 advanceWithin zero ended input room p = p
 advanceWithin (suc n) ended input room p = cond (goesOn room p) (advanceWithin n ended input room (turn ended input p)) p
 
--- a call makes no more turns than there are bytes, and one: each but the last takes some
+-- a call makes no more turns than there are bytes, and one: each but the last takes some (R164)
 unfoldable pub advanced : Bool → List ℕ → ℕ → Kept → Replay
 advanced ended input room k = advanceWithin (suc (length input)) ended input room (record { kept = k; taken = 0; output = []; next = Write })
 
@@ -70,7 +71,7 @@ pub record Leaves (x : Replay) (output₀ : List ℕ) (r : Progress) (store repl
   pub output-is : output ≡ x .output ++ drop (length (x .output)) output₀
   pub next-is : r .next ≡ x .next
 
--- the promise of a call
+-- the promise of a call (R197)
 abbrev pub Advances : List ℕ → Clock → List ℕ → Bool → List ℕ → List ℕ → Progress → List ℕ → List ℕ → List ℕ → Type 0
 Advances store clock input ended reply output r store′ reply′ output′ =
     Leaves (advanced ended input (length output) (record { store = store; clock = clock; reply = reply })) output r store′ reply′ output′
@@ -92,4 +93,4 @@ withNext filled next p = record { clock = p .clock; taken = p .taken; filled = f
 -- room
 pub record Fits (input output : List ℕ) (p : Progress) : Type 0 where
   pub within : p .taken ≤ length input
-  pub room : p .filled + 600 ≤ length output
+  pub room : p .filled + maxFrame ≤ length output

@@ -6,8 +6,9 @@ use mathlib.Core.List.{List, [], _∷_, _++_, map}
 use lib.ListN.{length, drop}
 use lib.Dec.{eqb}
 use Rattle.frame.specs.Message.{Message}
+use Rattle.frame.specs.Layout.{maxFrame}
 use Rattle.frame.specs.Reading.{message, readFrame}
-use Rattle.journal.specs.Journal.{journalOf}
+use Rattle.journal.specs.Journal.{maxRecord, journalOf}
 use Rattle.replayer.specs.declared.Next.{Next}
 use Rattle.replayer.specs.declared.Next.the-variants.{Read, Write, Stop}
 use Rattle.replayer.specs.Replies.{Kept, start, repliesTo, replies}
@@ -29,14 +30,14 @@ CallsStayWithin = (ended : Bool) (input : List ℕ) (room : ℕ) (k : Kept) → 
 -- a call that could have put a reply into its output asks for another call only after it has taken
 -- a record, of 14 bytes or more
 abbrev pub CallsGetOn : Type 0
-CallsGetOn = (ended : Bool) (input : List ℕ) (room : ℕ) (k : Kept) → 600 ≤ room → advanced ended input room k .next ≡ Write
+CallsGetOn = (ended : Bool) (input : List ℕ) (room : ℕ) (k : Kept) → maxFrame ≤ room → advanced ended input room k .next ≡ Write
     → 14 ≤ advanced ended input room k .taken
 
--- when more input is asked for, less than the longest record, 606 bytes, is left of what has come,
--- and the input has not ended
+-- when more input is asked for, less than the longest record is left of what has come, and the
+-- input has not ended
 abbrev pub ReadsForARecord : Type 0
 ReadsForARecord = (ended : Bool) (input : List ℕ) (room : ℕ) (k : Kept) → advanced ended input room k .next ≡ Read
-    → (ended ≡ false) × (length (drop (advanced ended input room k .taken) input) < 606)
+    → (ended ≡ false) × (length (drop (advanced ended input room k .taken) input) < maxRecord)
 
 -- ---- input that comes in pieces
 -- between two calls: what is kept, the input that is not taken, what has been written, and what is
@@ -88,21 +89,21 @@ arrived [] = []
 arrived (c ∷ cs) = c .came ++ arrived cs
 
 -- in whatever pieces the input comes: once the replay has stopped, the replies to the whole journal
--- have been written
+-- have been written (R164 to R166)
 abbrev pub AnyPieces : Type 0
 AnyPieces = (calls : List Call) (rooms : List ℕ) → drained calls rooms .next ≡ Stop → drained calls rooms .written ≡ replies (arrived calls)
 
 -- all of these are outputs with room for any reply
 abbrev pub AllHaveRoom : List ℕ → Type 0
 AllHaveRoom [] = Unit {0}
-AllHaveRoom (n ∷ ns) = (600 ≤ n) × AllHaveRoom ns
+AllHaveRoom (n ∷ ns) = (maxFrame ≤ n) × AllHaveRoom ns
 
--- and it has stopped after as many calls as bytes came, and one more
+-- and it has stopped after as many calls as bytes came, and one more (R165, R166)
 abbrev pub Stops : Type 0
 Stops = (calls : List Call) (rooms : List ℕ) → AllHaveRoom rooms → length (arrived calls) < length rooms → drained calls rooms .next ≡ Stop
 
 -- when more input is asked for, each whole record that has come is answered, so that a caller that
--- waits for an answer gets it
+-- waits for an answer gets it (R164)
 abbrev pub AnsweredBeforeReading : Type 0
 AnsweredBeforeReading = (calls : List Call) → fed calls .next ≡ Read → fed calls .written ≡ repliesTo start (journalOf (arrived calls) .records)
 
@@ -117,7 +118,7 @@ AllRead [] = Unit {0}
 AllRead (f ∷ fs) = ((m : Message) × (readFrame f ≡ message m)) × AllRead fs
 
 -- a reply frame for each record, one more for what stands behind the last if that is refused, and
--- nothing else
+-- nothing else (R164, R165)
 pub record Framed (s : List ℕ) : Type 0 where
   pub frames : List (List ℕ)
   pub are : replies s ≡ joined frames

@@ -8,7 +8,8 @@ use Rattle.wire.specs.Fill.{zeros}
 use Rattle.clock.specs.declared.Clock.{Clock}
 use Rattle.clock.specs.Clock.{freshClock}
 use Rattle.frame.specs.Message.{err}
-use Rattle.frame.specs.Layout.{frameOf}
+use Rattle.frame.specs.Layout.{maxFrame, frameOf}
+use Rattle.image.specs.Layout.{mostSlots}
 use Rattle.store.specs.Create.{freshStore}
 use Rattle.node.specs.Handler.{Result, handled}
 use Rattle.journal.specs.Journal.{TimedFrame, journalOf}
@@ -19,11 +20,12 @@ pub record Kept : Type 0 where
   pub clock : Clock
   pub reply : List ℕ
 
--- one store of 100 slots, a fresh clock with node id 1, and a reply buffer of 600 bytes
+-- one store of the most slots, a fresh clock with node id 1, and a reply buffer that any frame has
+-- room in (R163)
 unfoldable pub start : Kept
-start = record { store = freshStore 100; clock = freshClock 1; reply = zeros 600 }
+start = record { store = freshStore mostSlots; clock = freshClock 1; reply = zeros maxFrame }
 
--- a record's frame is handled at its time
+-- a record's frame is handled at its time (R164)
 unfoldable pub answer : Kept → TimedFrame → Result
 answer k r = handled (k .store) (k .clock) (r .time) (r .frame) (k .reply)
 
@@ -34,16 +36,16 @@ after k r = record { store = answer k r .store; clock = answer k r .clock; reply
 unfoldable pub replyTo : Kept → TimedFrame → List ℕ
 replyTo k r = take (answer k r .written) (answer k r .reply)
 
--- each reply frame, and nothing else
+-- each reply frame, and nothing else (R164)
 unfoldable pub repliesTo : Kept → List TimedFrame → List ℕ
 repliesTo k [] = []
 repliesTo k (r ∷ rs) = replyTo k r ++ repliesTo (after k r) rs
 
--- the ERR of what stands behind the last record; nothing at a clean end
+-- the ERR of what stands behind the last record; nothing at a clean end (R165, R166)
 unfoldable pub lastReply : ℕ → List ℕ
 lastReply n = cond (eqb n 0) [] (frameOf (err n))
 
--- the replies to a journal, with these things kept at its front
+-- the replies to a journal, with these things kept at its front (R163, R164)
 unfoldable pub repliesFrom : Kept → List ℕ → List ℕ
 repliesFrom k s = repliesTo k (journalOf s .records) ++ lastReply (journalOf s .refusal)
 

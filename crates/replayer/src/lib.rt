@@ -2,6 +2,7 @@
 // be written is filled.
 // What is left to a program is to read and to write.
 use clock::Clock;
+use frame::MAX_FRAME;
 use frame::write_err;
 use journal::Cut;
 use journal::cut_record;
@@ -14,7 +15,7 @@ ghost use Prim.Native.Nat.{_+_, _-_, _≤_};
 ghost use lib.Dec.{leb};
 ghost use lib.ListN.{length, take, drop};
 ghost use Rattle.frame.specs.Message.{err};
-ghost use Rattle.frame.specs.Layout.{frameOf};
+ghost use Rattle.frame.specs.Layout.{maxFrame, frameOf};
 ghost use Rattle.journal.specs.Journal.{recordAt};
 ghost use Rattle.replayer.specs.Advance.{isWrite, answered, turn, replayOf, withNext, Fits, Leaves, Advances};
 
@@ -23,8 +24,6 @@ ghost use Rattle.replayer.specs.Advance.{isWrite, answered, turn, replay
 const BAD_FRAME: u8 = 3;
 
 const ERR_BYTES: usize = 9;
-// No frame is longer, so with this room any reply can be put into the output.
-const MAX_FRAME: usize = 600;
 
 // What the caller is to do, once it has written the output.
 pub enum Next {
@@ -57,10 +56,10 @@ fn append(output: &mut [u8], filled: usize, reply: &[u8]) -> usize
     end
 }
 
-// Whether a call goes on with another turn.
+// Whether a call goes on with another turn: the output needs room for any reply.
 fn goes_on(progress: Progress, room: usize) -> bool
     requires { ⌜ progress .filled ≤ room ⌝ }
-    ensures { λ r. ⌜ r ≡ (isWrite (progress .next) && leb 600 (room - progress .filled)) ⌝ }
+    ensures { λ r. ⌜ r ≡ (isWrite (progress .next) && leb maxFrame (room - progress .filled)) ⌝ }
 {
     let next = progress.next;
     match next {
@@ -102,7 +101,7 @@ fn answer(
 
 // Stops with ERR 3.
 fn stop_bad(output: &mut [u8], progress: Progress) -> Progress
-    requires { ⌜ progress .filled + 600 ≤ length (now output) ⌝ }
+    requires { ⌜ progress .filled + maxFrame ≤ length (now output) ⌝ }
     ensures told { λ r. ⌜ r ≡ withNext (progress .filled + 9) Next.Stop progress ⌝ }
     ensures left { λ _. ⌜ now (output .exit)
         ≡ take (progress .filled) (now (output .entry)) ++ frameOf (err 3) ++ drop (progress .filled + 9) (now (output .entry)) ⌝ }

@@ -8,7 +8,7 @@ use native.Mathlib.Omega.{arith}
 use native.Mathlib.Numerals.{add-one}
 use lib.Dec.{leb, eqb}
 use lib.ListN.{length, getD, set, take, drop, length-append, length-drop, length-map, drop-of-length-le, List·getD-append, List·getD-map}
-use lib.Seq.{length-take-le, getD-drop, getD-take, getD-append-add, take-suc-set, drop-cons, take-suc, set-at, append-snoc, getD-set-other}
+use lib.Seq.{length-take-le, getD-drop, getD-take, getD-append-add, take-suc-set, drop-cons, getD-set-other}
 use borrow.Author.Tests.{eqb-true, eqb-false}
 use Rattle.wire.proofs.Tests.{cases}
 use Rattle.ring.specs.Lists.{filter, without, firsts}
@@ -145,11 +145,3 @@ module _ (w : List ℕ) (a : List Bool) (t : List ℕ) (r k j p : ℕ) (h : j < 
 pub turn-end : (t g : List ℕ) (r : ℕ) (a : List Bool) (l : List ℕ) → g ≡ [] → t ++ g ≡ gather r a l
     → t ≡ take r (firsts (filter (flagged a) l))
 turn-end t g r a l e i = sym (append-nil t) ∙ ap (λ (s : List ℕ). t ++ s) (sym e) ∙ i ∙ gather-law r a l
-
--- ---- one list written over the front of another, an element a turn
-pub front-step : (n d o : List ℕ) (i : ℕ) → i < length n → i < length d → o ≡ take i n ++ drop i d
-    → set o i (getD n i 0) ≡ take (i + 1) n ++ drop (i + 1) d
-front-step n d o i hn hd e =
-    rw (e, add-one i, drop-cons d i 0 hd, take-suc n i 0 hn)
-    (set-at (take i n) (getD d i 0) (drop (suc i) d) (getD n i 0) i (length-take-le i n (omega arith))
-    ∙ sym (append-snoc (take i n) (getD n i 0) (drop (suc i) d)))

@@ -14,23 +14,23 @@ pub data Answer : Type 0 where
   gives : ℕ → Answer
   refuses : ℕ → Answer
 
--- a key's position
+-- a key's position (R199)
 abbrev pub positionMeaning : KeyPosition → Answer
 positionMeaning (At position) = gives position
 positionMeaning (PositionRefused r) = refuses (number r)
 
--- how many places were built
+-- how many places were built (R199)
 abbrev pub builtMeaning : Built → Answer
 builtMeaning (Places n) = gives n
 builtMeaning (BuildRefused r) = refuses (number r)
 
--- how many owners were found
+-- how many owners were found (R199)
 abbrev pub ownershipMeaning : Ownership → Answer
 ownershipMeaning (Found n) = gives n
 ownershipMeaning (WalkRefused r) = refuses (number r)
 
 -- a success writes to the front of the lent slice and leaves the later elements; a refusal writes
--- nothing
+-- nothing (R29, R31)
 abbrev pub written : Answer → List ℕ → List ℕ → List ℕ
 written (gives n) front lent = front ++ drop (length front) lent
 written (refuses n) front lent = lent

@@ -7,5 +7,6 @@ pub mod Placing
 pub mod OnSound
 pub mod Keeping
 pub mod Looking
+pub mod Listings
 pub mod Ways
 pub mod Overtaking

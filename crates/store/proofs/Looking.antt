@@ -18,8 +18,8 @@ use Rattle.wire.proofs.Fields.{field-part}
 use Rattle.entry.specs.Refusal.{number}
 use Rattle.entry.specs.Key.{badKey}
 use Rattle.entry.specs.Entry.{Entry}
-use Rattle.image.specs.Layout.{vlenAt, valueAt, valueWidth, slotWidth, slotStart, valueStart}
-use Rattle.image.specs.Image.{valueIn, slotEntry, entriesOf, sound}
+use Rattle.image.specs.Layout.{klenAt, vlenAt, keyAt, keyWidth, valueAt, valueWidth, slotWidth, slotStart, valueStart}
+use Rattle.image.specs.Image.{keyIn, valueIn, slotEntry, entriesOf, sound}
 use Rattle.image.specs.Slot.{slotAt}
 use Rattle.image.proofs.Compared.{distinct}
 use Rattle.image.proofs.ImageLaws.{entry-at, used-is, sound-is, sound-length}
@@ -32,7 +32,7 @@ use Rattle.store.proofs.Looked.{the-type}
 use Rattle.store.proofs.HeldLaws.{find-some}
 use Rattle.store.proofs.OnSound.{fits-held}
 
--- ---- the value of a slot, in any bytes
+-- ---- the key and the value of a slot, in any bytes
 take-part : (n m : ℕ) (l : List ℕ) → take (length (take n (take m l))) l ≡ take n (take m l)
 take-part zero m l = refl
 take-part (suc n) zero l = refl
@@ -43,13 +43,20 @@ field-front : (n a m : ℕ) (s : List ℕ) → field a (length (take n (field a 
 unfolding field
 field-front n a m s = take-part n m (drop a s)
 
-slot-value : (i : ℕ) (s : List ℕ) → field (valueStart i) (length (valueIn (slotAt i s))) s ≡ valueIn (slotAt i s)
-unfolding valueIn slotAt
-slot-value i s =
-    let n = num (field vlenAt 2 (slotAt i s)) in
-    let v : valueIn (slotAt i s) ≡ take n (field (valueStart i) valueWidth s) =
-    ap (take n) (field-part (slotStart i) slotWidth valueAt valueWidth s (omega arith)) in
-    ap (λ (l : List ℕ). field (valueStart i) (length l) s) v ∙ field-front n (valueStart i) valueWidth s ∙ sym v
+pub slot-part : (i at w n : ℕ) (s : List ℕ) → at + w ≤ slotWidth
+    → field (slotStart i + at) (length (take n (field at w (slotAt i s)))) s ≡ take n (field at w (slotAt i s))
+unfolding slotAt
+slot-part i at w n s h =
+    let p : take n (field at w (slotAt i s)) ≡ take n (field (slotStart i + at) w s) = ap (take n) (field-part (slotStart i) slotWidth at w s h) in
+    ap (λ (l : List ℕ). field (slotStart i + at) (length l) s) p ∙ field-front n (slotStart i + at) w s ∙ sym p
+
+pub slot-value : (i : ℕ) (s : List ℕ) → field (valueStart i) (length (valueIn (slotAt i s))) s ≡ valueIn (slotAt i s)
+unfolding valueIn
+slot-value i s = slot-part i valueAt valueWidth (num (field vlenAt 2 (slotAt i s))) s (omega arith)
+
+pub slot-key : (i : ℕ) (s : List ℕ) → field (slotStart i + keyAt) (length (keyIn (slotAt i s))) s ≡ keyIn (slotAt i s)
+unfolding keyIn
+slot-key i s = slot-part i keyAt keyWidth (num (field klenAt 1 (slotAt i s))) s (omega arith)
 
 -- ---- the entry that is found stands at its index
 pub record FoundAt (k : List ℕ) (es : List Entry) (h : Entry) : Type 0 where

@@ -7,7 +7,7 @@ use Rattle.store.specs.declared.Offered.the-variants as offered
 use Rattle.store.specs.declared.Merged.{Merged}
 use Rattle.store.specs.declared.Merged.the-variants as merging
 
--- the three successes of an offer, the one of a merge, and a refusal with its number
+-- the three successes of an offer, the one of a merge, and a refusal with its number (R120, R199)
 pub data Answer : Type 0 where
   stored replaced kept merged : Answer
   refused : ℕ → Answer

@@ -12,7 +12,7 @@ abbrev pub _∈_ : {A : Type 0} → A → List A → Type 0
 a ∈ l = List·Memᴰ a l
 
 -- the entry is put in at its key's place, or replaces the held one of its key if it beats that, or
--- the held one is kept
+-- the held one is kept (R117 to R119)
 unfoldable pub put : Entry → List Entry → List Entry
 put e [] = e ∷ []
 put e (h ∷ hs) =
@@ -20,12 +20,12 @@ put e (h ∷ hs) =
     (cond (sameBytes (e .key) (h .key)) (cond (beats e h) (e ∷ hs) (h ∷ hs))
     (h ∷ put e hs))
 
--- each of some entries is offered in turn
+-- each of some entries is offered in turn (R121)
 unfoldable pub putAll : List Entry → List Entry → List Entry
 putAll [] hs = hs
 putAll (e ∷ es) hs = putAll es (put e hs)
 
--- the held entry of a key
+-- the held entry of a key (R123)
 unfoldable pub find : List ℕ → List Entry → Option Entry
 find k [] = none
 find k (h ∷ hs) = cond (sameBytes k (h .key)) (some h) (find k hs)

@@ -2,6 +2,7 @@ pub mod Held
 pub mod Answer
 pub mod Create
 pub mod Lookup
+pub mod Listing
 pub mod Offer
 pub mod Merge
 pub mod Unchecked

@@ -1,4 +1,4 @@
--- Merging one store into another: each of the giver's entries is offered, all or none.
+-- Merging one store into another: each of the giver's entries is offered, all or none (R121).
 use Prim.Native.Nat.{ℕ}
 use mathlib.Core.Bool.{cond, not}
 use mathlib.Core.List.{List}
@@ -9,7 +9,7 @@ use Rattle.store.specs.Held.{putAll}
 use Rattle.store.specs.Answer.{Answer, merged, refused, isRefused}
 
 -- 5 for the receiver, 5 for the giver, then 6 if the distinct keys held after the call would exceed
--- the receiver's slots
+-- the receiver's slots (R13, R38, R122)
 unfoldable pub mergeAnswer : List ℕ → List ℕ → Answer
 mergeAnswer receiver giver =
     cond (not (sound receiver)) (refused 5)

@@ -11,12 +11,12 @@ use Rattle.store.specs.Held.{put, find}
 use Rattle.store.specs.Answer.{Answer, stored, replaced, kept, refused, isRefused}
 
 -- no held entry, it is stored; a held one that it beats, it replaces; otherwise the held one is
--- kept
+-- kept (R117 to R120)
 unfoldable pub told : Entry → Option Entry → Answer
 told e none = stored
 told e (some h) = cond (beats e h) replaced kept
 
--- 5, then 9, 1, 2, 17, then 6 if the distinct keys held after the call would exceed the slots
+-- 5, then 9, 1, 2, 17, then 6 if the distinct keys held after the call would exceed the slots (R12, R13, R35)
 unfoldable pub offerAnswer : List ℕ → Entry → Answer
 offerAnswer store e =
     cond (not (sound store)) (refused 5)
@@ -24,6 +24,6 @@ offerAnswer store e =
     (cond (ltb (slotsOf store) (length (put e (entriesOf store)))) (refused 6)
     (told e (find (e .key) (entriesOf store)))))
 
--- a refusal changes nothing
+-- a refusal changes nothing (R29, R117, R118)
 unfoldable pub afterOffer : List ℕ → Entry → List ℕ
 afterOffer store e = cond (isRefused (offerAnswer store e)) store (image (slotsOf store) (put e (entriesOf store)))

@@ -11,7 +11,7 @@ use Rattle.image.specs.Image.{entriesOf, sound}
 use Rattle.store.specs.Held.{find}
 use Rattle.store.specs.Unchecked.{seen}
 
--- by the held entry of the key, if there is one
+-- by the held entry of the key, if there is one (R14)
 unfoldable pub overtakenBy : Option Entry → Stamp → Bool
 overtakenBy none t = false
 overtakenBy (some h) t = not (stampBelow (h .stamp) t)
@@ -19,7 +19,7 @@ overtakenBy (some h) t = not (stampBelow (h .stamp) t)
 unfoldable pub overtaken : List ℕ → List ℕ → Stamp → Bool
 overtaken store key t = overtakenBy (find key (entriesOf store)) t
 
--- the same without the test of soundness, on any bytes
+-- the same without the test of soundness, on any bytes (R198)
 unfoldable pub overtakenUnchecked : List ℕ → List ℕ → Stamp → Bool
 overtakenUnchecked store key t = overtakenBy (seen key (entriesOf store)) t
 

@@ -48,7 +48,7 @@ pub record Placed (k : List ℕ) (es : List Entry) (at : ℕ) (held : Bool) : Ty
   pub known : held ≡ isHeld (seen k es)
   pub small : at < 65536
 
--- ---- looking a key up
+-- ---- looking a key up (R198)
 unfoldable pub lookupUnchecked : List ℕ → List ℕ → Finding
 lookupUnchecked store key = cond (badKey key) (looking.refused 1) (findingFor (seek key (entriesOf store)) (seen key (entriesOf store)))
 
@@ -110,7 +110,7 @@ unfoldable pub countNew : List Entry → List Entry → ℕ
 countNew hs [] = zero
 countNew hs (e ∷ es) = cond (isHeld (seen (e .key) hs)) (countNew hs es) (suc (countNew hs es))
 
--- ---- offering an entry: 9, 1, 2, 17, then 6
+-- ---- offering an entry: 9, 1, 2, 17, then 6 (R35, R198)
 unfoldable pub offerUnchecked : List ℕ → Entry → Answer
 offerUnchecked s e = cond (not (eqb (refusalOf e) 0)) (refused (refusalOf e)) (toldOf (placement s e))
 

@@ -11,6 +11,7 @@ use entry::judge;
 use image::has_slot;
 use image::is_sound;
 use image::layout::HEADER_WIDTH;
+use image::layout::KEY_AT;
 use image::layout::MAX_SLOTS;
 use image::layout::SLOT_WIDTH;
 use image::layout::VALUE_AT;
@@ -37,6 +38,7 @@ ghost use Rattle.image.specs.Image.{slotEntry, entriesOf, sound};
 ghost use Rattle.store.specs.Answer.{answerOf, mergeAnswerOf};
 ghost use Rattle.store.specs.Create.{createdNumber, createRefusal, afterCreate};
 ghost use Rattle.store.specs.Lookup.{findingOf, lookupAnswer, valuePart};
+ghost use Rattle.store.specs.Listing.{listingOf, entryAnswer};
 ghost use Rattle.store.specs.Offer.{offerAnswer, afterOffer};
 ghost use Rattle.store.specs.Merge.{mergeAnswer, afterMerge};
 ghost use Rattle.store.specs.Overtaken.{overtakenUnchecked};
@@ -54,6 +56,20 @@ pub enum Looked {
     Value { at: usize, len: usize },
     Deleted,
     Never,
+    Refused(Refusal),
+}
+
+// What a store says of the entry at a place in key order.
+pub enum Listed {
+    // Its key and its value stand at these bytes of the store.
+    Entry {
+        key_at: usize,
+        key_len: usize,
+        value_at: usize,
+        value_len: usize,
+        flag: u8,
+        stamp: Stamp,
+    },
     Refused(Refusal),
 }
 
@@ -169,6 +185,28 @@ pub fn value<'a>(store: &'a [u8], key: &[u8]) -> &'a [u8]
     };
     let end = at + len;
     &store[at..end]
+}
+
+// The i-th of the entries that a store holds, in key order, counted from 0.
+pub fn entry_at(store: &[u8], i: usize) -> Listed
+    ensures { λ r. ⌜ listingOf r ≡ entryAnswer (now (store .entry)) i ⌝ }
+{
+    if !is_sound(store) {
+        return Listed::Refused(Refusal::BadStore);
+    }
+    if used_count(store) <= i {
+        return Listed::Refused(Refusal::BadArgument);
+    }
+    let at = HEADER_WIDTH + SLOT_WIDTH * i;
+    let found = slot(store, i);
+    Listed::Entry {
+        key_at: at + KEY_AT,
+        key_len: slot_key(found).len(),
+        value_at: at + VALUE_AT,
+        value_len: slot_value(found).len(),
+        flag: slot_flag(found),
+        stamp: slot_stamp(found),
+    }
 }
 
 // Whether an entry with this stamp beats the one that a slot holds.

@@ -3,7 +3,6 @@ use mathlib.Core.Path.{_≡_, refl, sym, ap, ap₂, _∙_}
 use Prim.Native.Nat.{ℕ, zero, suc, _+_, _-_, _≤_, _<_}
 use mathlib.Core.List.{List, [], _∷_, _++_, append-nil}
 use native.Mathlib.Omega.{arith}
-use native.Mathlib.Nat.{not-suc-le-zero, le-of-suc-le-suc}
 use native.Mathlib.Numerals.{add-one}
 use lib.ListN.{length, take, drop, getD, set, replicate, length-append, length-take, length-drop, length-replicate, getD-replicate, drop-of-length-le}
 use lib.ListN.{replicate-append-replicate}
@@ -37,6 +36,11 @@ pub padded-fits : (w : ℕ) (s : List ℕ) → length s ≤ w → padded w s ≡
 unfolding padded
 padded-fits w s h = ap (λ (r : List ℕ). r ++ zeros (w - length s)) (take-all w s h)
 
+-- what is too long is cut
+pub padded-cut : (w : ℕ) (s : List ℕ) → w ≤ length s → padded w s ≡ take w s
+unfolding padded zeros
+padded-cut w s h = let e : w - length s ≡ 0 = omega arith in ap (λ (n : ℕ). take w s ++ replicate n 0) e ∙ append-nil (take w s)
+
 -- what fills its field has no zeros after it
 pub padded-exact : (s : List ℕ) → padded (length s) s ≡ s
 unfolding zeros
@@ -65,20 +69,9 @@ unfolding field
 length-field at w s h = length-take w (drop at s) ∙ omega (arith, length-drop at s)
 
 -- ---- a field filled from the front
-pub getD-padded : (s : List ℕ) (w i : ℕ) → i < w → getD (padded w s) i 0 ≡ getD s i 0
-unfolding padded zeros
-getD-padded [] zero i h = absurd (not-suc-le-zero h)
-getD-padded [] (suc w) i h = let e : suc w - 0 ≡ suc w = omega arith in ap (λ (k : ℕ). getD (replicate k 0) i 0) e ∙ getD-replicate (suc w) i 0 0 h
-getD-padded (b ∷ s) zero i h = absurd (not-suc-le-zero h)
-getD-padded (b ∷ s) (suc w) zero h = refl
-getD-padded (b ∷ s) (suc w) (suc i) h =
-    let e : suc w - suc (length s) ≡ w - length s = omega arith in
-    ap (λ (k : ℕ). getD (take w s ++ replicate k 0) i 0) e ∙ getD-padded s w i (le-of-suc-le-suc h)
-
--- a loop that copies p over d₀
-pub copy-step : (p d₀ : List ℕ) (i : ℕ) → i < length d₀ → length p ≡ length d₀ → set (take i p ++ drop i d₀) i (getD p i 0) ≡ take (i + 1) p ++ drop (i + 1) d₀
-copy-step p d₀ i h k =
-    let hp : i < length p = omega arith in
+-- a loop that copies p over the front of d₀
+pub copy-step : (p d₀ : List ℕ) (i : ℕ) → i < length d₀ → i < length p → set (take i p ++ drop i d₀) i (getD p i 0) ≡ take (i + 1) p ++ drop (i + 1) d₀
+copy-step p d₀ i h hp =
     ap (λ (r : List ℕ). set (take i p ++ r) i (getD p i 0)) (drop-cons d₀ i 0 h)
     ∙ set-at (take i p) (getD d₀ i 0) (drop (suc i) d₀) (getD p i 0) i (length-take-le i p (omega arith))
     ∙ sym (append-snoc (take i p) (getD p i 0) (drop (suc i) d₀))

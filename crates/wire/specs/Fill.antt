@@ -3,10 +3,10 @@ use Prim.Native.Nat.{ℕ, _-_}
 use mathlib.Core.List.{List, _++_}
 use lib.ListN.{length, take, drop, replicate}
 
-unfoldable pub zeros : ℕ → List ℕ
+unfoldable pub zeros : ℕ → List ℕ  -- (R106)
 zeros n = replicate n 0
 
--- what of s fits w bytes, and zeros up to w bytes
+-- what of s fits w bytes, and zeros up to w bytes (R106)
 unfoldable pub padded : ℕ → List ℕ → List ℕ
 padded w s = take w s ++ zeros (w - length s)
 

@@ -44,22 +44,42 @@ pub fn get_be(s: &[u8]) -> u64
     x
 }
 
-// The byte at i, and 0 past the end.
-fn byte_or_zero(s: &[u8], i: usize) -> u8
-    ensures { λ r. ⌜ r ≡ getD (now (s .entry)) i 0 ⌝ }
+// Copies `s` over `out`. The copy and the zeros below have a loop each, so that the compiler can
+// take many bytes at once.
+fn copy(out: &mut [u8], s: &[u8])
+    requires { ⌜ length (now out) ≡ length (now s) ⌝ }
+    ensures { λ _. ⌜ now (out .exit) ≡ now (s .entry) ⌝ }
 {
-    if i < s.len() { s[i] } else { 0 }
+    let mut i = 0;
+    while i < out.len() {
+        out[i] = s[i];
+        i += 1;
+    }
+}
+
+// Fills `out` with zeros.
+fn clear(out: &mut [u8])
+    ensures { λ _. ⌜ now (out .exit) ≡ zeros (length (now (out .entry))) ⌝ }
+{
+    let mut i = 0;
+    while i < out.len() {
+        out[i] = 0;
+        i += 1;
+    }
 }
 
 // Fills `out` with what of `s` it has room for, and zeros after it.
 pub fn put_padded(out: &mut [u8], s: &[u8])
     ensures { λ _. ⌜ now (out .exit) ≡ padded (length (now (out .entry))) (now (s .entry)) ⌝ }
 {
-    let mut i = 0;
-    while i < out.len() {
-        out[i] = byte_or_zero(s, i);
-        i += 1;
+    let w = out.len();
+    let n = s.len();
+    if w <= n {
+        copy(out, &s[0..w]);
+        return;
     }
+    copy(&mut out[0..n], s);
+    clear(&mut out[n..w]);
 }
 
 // Whether a few bytes are zeros alone: their sum is 0. No turn depends on a byte, so that the

@@ -29,6 +29,11 @@ fn plain(outcome: Result<(), Refusal>) -> u32 {
     counted(outcome.map(|()| 0))
 }
 
+/// A flag, state or admission. None that is in range needs more than a byte.
+fn narrow(number: u32) -> u8 {
+    number.try_into().unwrap_or(u8::MAX)
+}
+
 /// Writes words to the front of an output, if they fit there.
 fn put_front<T: Copy>(out: &mut [T], words: &[T]) -> Result<(), Refusal> {
     if out.len() < words.len() {
@@ -168,8 +173,10 @@ pub fn peers_heard(id: u8, incarnation: u32, now: u64, table: &mut [u64]) -> u32
     event(now, table, |t| t.heard(id, incarnation, now))
 }
 
-pub fn peers_reported(id: u8, state: u8, incarnation: u32, now: u64, table: &mut [u64]) -> u32 {
-    event(now, table, |t| t.reported(id, state, incarnation, now))
+pub fn peers_reported(id: u8, state: u32, incarnation: u32, now: u64, table: &mut [u64]) -> u32 {
+    event(now, table, |t| {
+        t.reported(id, narrow(state), incarnation, now)
+    })
 }
 
 pub fn peers_tick(now: u64, table: &mut [u64]) -> u32 {
@@ -189,8 +196,8 @@ pub fn key_position(key: &[u8], salt: u32, position: &mut [u32]) -> u32 {
     plain(found.and_then(|found| put_front(position, &[found])))
 }
 
-pub fn ring_build(ids: &[u8], vnodes: u8, salt: u32, ring: &mut [u64]) -> u32 {
-    counted(ring::build(ids, vnodes.into(), salt, ring))
+pub fn ring_build(ids: &[u8], vnodes: u32, salt: u32, ring: &mut [u64]) -> u32 {
+    counted(ring::build(ids, vnodes as usize, salt, ring))
 }
 
 pub fn ring_is_sound(ring: &[u64]) -> u32 {
@@ -201,8 +208,8 @@ pub fn owners(
     ring: &[u64],
     table: &[u64],
     position: u32,
-    admission: u8,
-    count: u8,
+    admission: u32,
+    count: u32,
     out: &mut [u8],
 ) -> u32 {
     let admission = match admission {
@@ -213,7 +220,7 @@ pub fn owners(
     let Some(table) = table_from(table) else {
         return refused(Refusal::BadArgument);
     };
-    let count = count.into();
+    let count = count as usize;
     plain(ring::owners(ring, &table, admission, position, count, out))
 }
 
@@ -291,14 +298,14 @@ fn stamp(phys: u64, logical: u16, node: u8) -> Stamp {
 pub fn write_repl(
     key: &[u8],
     value: &[u8],
-    flag: u8,
+    flag: u32,
     phys: u64,
     logical: u16,
     node: u8,
     out: &mut [u8],
 ) -> u32 {
     let stamp = stamp(phys, logical, node);
-    counted(frame::write_repl(out, key, flag, stamp, value))
+    counted(frame::write_repl(out, key, narrow(flag), stamp, value))
 }
 
 pub fn write_ok(out: &mut [u8]) -> u32 {
@@ -313,7 +320,9 @@ pub fn write_not_found(out: &mut [u8]) -> u32 {
     counted(frame::write_not_found(out))
 }
 
-pub fn write_err(number: u8, out: &mut [u8]) -> u32 {
+/// 0 is out of range, as a number is that needs more than its byte.
+pub fn write_err(number: u32, out: &mut [u8]) -> u32 {
+    let number = number.try_into().unwrap_or(0);
     counted(frame::write_err(out, number))
 }
 
@@ -325,13 +334,18 @@ pub fn store_is_sound(store: &[u8]) -> u32 {
     store::is_sound(store).into()
 }
 
-/// Where a held value stands in the store; it has a place also when empty.
+/// Where the key and the value of a slot stand; an empty value has a place too.
+fn places_in_slot(index: usize) -> [u64; 2] {
+    let key_at = store::image_length(index) + 16;
+    [key_at, key_at + key::KEY_MAX].map(|at| at as u64)
+}
+
 fn place_in_store(store: &[u8], key: &[u8]) -> Result<[u64; 2], Refusal> {
     let entries = store::entries(store)?;
     let index = entries.iter().position(|e| e.key == key);
     let index = index.expect("a found key has an entry");
-    let at = store::image_length(index) + 16 + key::KEY_MAX;
-    Ok([at as u64, entries[index].value.len() as u64])
+    let [_, at] = places_in_slot(index);
+    Ok([at, entries[index].value.len() as u64])
 }
 
 pub fn store_lookup(store: &[u8], key: &[u8], place: &mut [u64]) -> u32 {
@@ -347,16 +361,36 @@ pub fn store_lookup(store: &[u8], key: &[u8], place: &mut [u64]) -> u32 {
     counted(outcome)
 }
 
+pub fn store_entry(store: &[u8], i: usize, fields: &mut [u64]) -> u32 {
+    let outcome = store::entry(store, i).and_then(|entry| {
+        let [key_at, value_at] = places_in_slot(i);
+        let words: [u64; FIELDS] = [
+            frame::REPL.into(),
+            key_at,
+            entry.key.len() as u64,
+            value_at,
+            entry.value.len() as u64,
+            entry.flag.into(),
+            entry.stamp.phys,
+            entry.stamp.logical.into(),
+            entry.stamp.node.into(),
+            0,
+        ];
+        put_front(fields, &words)
+    });
+    plain(outcome)
+}
+
 pub fn store_offer(
     store: &mut [u8],
     key: &[u8],
     value: &[u8],
-    flag: u8,
+    flag: u32,
     phys: u64,
     logical: u16,
     node: u8,
 ) -> u32 {
-    let offered = store::offer(store, key, value, flag, stamp(phys, logical, node));
+    let offered = store::offer(store, key, value, narrow(flag), stamp(phys, logical, node));
     counted(offered.map(|offered| match offered {
         Offered::Stored => 0,
         Offered::Replaced => 1,

@@ -83,9 +83,19 @@ pub fn any_value(rng: &mut Rng) -> Vec<u8> {
     }
 }
 
+/// A number of some range, sometimes with more above its lowest byte or two,
+/// which must not be cut off.
+pub fn wide(rng: &mut Rng, number: u32) -> u32 {
+    match rng.below(8) {
+        0 => number + pick(rng, &[1 << 8, 1 << 9, 1 << 16, 1 << 31]),
+        _ => number,
+    }
+}
+
 /// Mostly one of the two, sometimes out of range.
-pub fn flag(rng: &mut Rng) -> u8 {
-    pick(rng, &[0, 0, 0, 0, 1, 1, 1, 2, 128, 255])
+pub fn flag(rng: &mut Rng) -> u32 {
+    let flag = pick(rng, &[0, 0, 0, 0, 1, 1, 1, 2, 128, 255]);
+    wide(rng, flag)
 }
 
 /// Any time: near 0, near the end of the range, beyond it.

@@ -81,10 +81,11 @@ fn ring() {
 
 #[test]
 fn store() {
-    let reach: [Reach; 5] = [
+    let reach: [Reach; 6] = [
         ("store_create", &[0], &[17, 4]),
         ("store_is_sound", &[0, 1], &[]),
         ("store_lookup", &[0, 1, 2], &[5, 1, 4]),
+        ("store_entry", &[0], &[5, 17, 4]),
         ("store_offer", &[0, 1, 2], &[5, 9, 1, 2, 17, 6]),
         ("store_merge", &[0], &[5, 6]),
     ];

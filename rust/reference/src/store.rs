@@ -204,6 +204,12 @@ pub fn entries(store: &[u8]) -> Result<Vec<Entry>, Refusal> {
     Ok(slots.map(entry_of).collect())
 }
 
+/// The held entry with this number, counted from 0 in key order.
+pub fn entry(store: &[u8], i: usize) -> Result<Entry, Refusal> {
+    let mut held = entries(store)?.into_iter();
+    held.nth(i).ok_or(Refusal::BadArgument)
+}
+
 fn entry_of(slot: &[u8]) -> Entry {
     Entry {
         key: slot_key(slot).to_vec(),

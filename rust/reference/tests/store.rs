@@ -3,8 +3,8 @@
 use reference::checksum::crc32c_bits;
 use reference::stamp::Stamp;
 use reference::store::{
-    create, entries, image_length, is_sound, lookup, merge, offer, used_count, value, Entry, Found,
-    Offered,
+    create, entries, entry, image_length, is_sound, lookup, merge, offer, used_count, value, Entry,
+    Found, Offered,
 };
 use reference::Refusal;
 use std::collections::{BTreeMap, BTreeSet};
@@ -152,6 +152,24 @@ fn lookups() {
     assert_eq!(lookup(&image, b""), Err(Refusal::BadKey));
     assert_eq!(lookup(&image[1..], b""), Err(Refusal::BadStore));
     assert_eq!(value(&image[1..], b"a"), b"");
+}
+
+#[test]
+fn entries_by_number() {
+    let image = sample();
+    let tombstone = Entry {
+        key: b"b".to_vec(),
+        value: vec![],
+        flag: 1,
+        stamp: stamp(20, 3, 4),
+    };
+    assert_eq!(entry(&image, 0).map(|e| e.value), Ok(b"one".to_vec()));
+    assert_eq!(entry(&image, 1), Ok(tombstone));
+    for past in [2, 3, usize::MAX] {
+        assert_eq!(entry(&image, past), Err(Refusal::BadArgument));
+        assert_eq!(entry(&image[1..], past), Err(Refusal::BadStore));
+    }
+    assert_eq!(entry(&fresh(1), 0), Err(Refusal::BadArgument));
 }
 
 #[test]

@@ -1,7 +1,7 @@
-//! TRACE has a block for each rule of RULES, and every name in it stands in the
-//! crates.
+//! TRACE has a block for each rule of RULES, every name in it stands in the crates,
+//! and the comments of the definitions cite the rules that it names them for.
 
-use std::collections::BTreeSet;
+use std::collections::{BTreeMap, BTreeSet};
 use std::fs;
 use std::path::{Path, PathBuf};
 
@@ -28,15 +28,29 @@ fn rule(word: &str) -> Option<u32> {
     word.strip_prefix('R')?.parse().ok()
 }
 
-/// The rules, in their order: a rule begins with `**R12**`, or is the row of a
-/// table that begins with `| R12 |`.
+/// The rule that begins on a line: with `**R12**`, or as the row of a table that
+/// begins with `| R12 |`.
+fn begun(line: &str) -> Option<u32> {
+    let prose = line.strip_prefix("**").and_then(|l| l.split_once("**"));
+    let row = line.strip_prefix("| ").and_then(|l| l.split_once(" |"));
+    rule(prose.or(row)?.0)
+}
+
+/// The rules, in their order.
 fn rules(text: &str) -> Vec<u32> {
-    let number = |line: &str| {
-        let prose = line.strip_prefix("**").and_then(|l| l.split_once("**"));
-        let row = line.strip_prefix("| ").and_then(|l| l.split_once(" |"));
-        rule(prose.or(row)?.0)
-    };
-    text.lines().filter_map(number).collect()
+    text.lines().filter_map(begun).collect()
+}
+
+/// The rules of a list: `R1, R2` or `R3 to R5`.
+fn listed(list: &str) -> Option<Vec<u32>> {
+    let mut all = Vec::new();
+    for part in list.split(", ") {
+        match part.split_once(" to ") {
+            Some((first, last)) => all.extend(rule(first)?..=rule(last)?),
+            None => all.push(rule(part)?),
+        }
+    }
+    Some(all)
 }
 
 /// A block of TRACE: the number of its first line, its rules, and its lines by
@@ -48,16 +62,9 @@ struct Block {
     lines: Vec<(String, String)>,
 }
 
-/// The rules that a heading names: `R1, R2: title` or `R3 to R5: title`.
+/// The rules that a heading names: `R1, R2: title`.
 fn headed(heading: &str) -> Option<Vec<u32>> {
-    let mut all = Vec::new();
-    for part in heading.split_once(": ")?.0.split(", ") {
-        match part.split_once(" to ") {
-            Some((first, last)) => all.extend(rule(first)?..=rule(last)?),
-            None => all.push(rule(part)?),
-        }
-    }
-    Some(all)
+    listed(heading.split_once(": ")?.0)
 }
 
 /// The blocks, and what is no part of one.
@@ -266,6 +273,171 @@ fn misnamed(block: &Block, names: &Names) -> Vec<String> {
     faults
 }
 
+// ---- what the definitions cite
+
+/// The sections of RULES whose rules say that others hold, or what would break
+/// them: the definitions cite those others.
+const OF_OTHERS: [&str; 4] = ["## 14.", "## 15.", "## 18.", "## 19."];
+
+/// The rules of these sections.
+fn of_others(text: &str) -> BTreeSet<u32> {
+    let (mut found, mut inside) = (BTreeSet::new(), false);
+    for line in text.lines() {
+        if line.starts_with("## ") {
+            inside = OF_OTHERS.iter().any(|section| line.starts_with(section));
+        }
+        found.extend(begun(line).filter(|_| inside));
+    }
+    found
+}
+
+/// The rules that a comment cites, each list in parentheses of its own; or one
+/// that stands elsewhere.
+fn in_comment(comment: &str) -> Result<Vec<u32>, u32> {
+    let mut all = Vec::new();
+    for part in comment.split(['(', ')']) {
+        match listed(part) {
+            Some(rules) => all.extend(rules),
+            None => {
+                let mut words = part.split(|c: char| !c.is_alphanumeric());
+                words.find_map(rule).map_or(Ok(()), Err)?;
+            }
+        }
+    }
+    Ok(all)
+}
+
+/// A definition: its crate, and `File.name`.
+type Definition = (String, String);
+
+/// What the definitions of the crates cite.
+#[derive(Debug, Default)]
+struct Citations {
+    /// The crate, the file and line, and the rule, of each citation.
+    all: Vec<(String, String, u32)>,
+    /// The file and line of each definition, and the rules that its comment cites.
+    of: BTreeMap<Definition, (String, Vec<u32>)>,
+    /// What is no citation but names a rule.
+    faults: Vec<String>,
+}
+
+impl Citations {
+    /// Adds a file. The comment of a definition stands above it or at the end of
+    /// its line; one that has none has that of the definition before it.
+    fn add(&mut self, krate: &str, path: &str, text: &str) {
+        let file = stem(Path::new(path));
+        let (mut above, mut current) = (None::<Vec<u32>>, Vec::new());
+        for (at, line) in (1..).zip(text.lines()) {
+            let place = format!("{path}, line {at}");
+            let parts = line.split_once("--");
+            let (code, comment) = parts.map_or((line, None), |(code, rest)| (code, Some(rest)));
+            if let Some(comment) = comment {
+                let rules = in_comment(comment).unwrap_or_else(|rule| {
+                    self.faults.push(format!("{place}: R{rule} is in no list"));
+                    Vec::new()
+                });
+                let one = |rule: &u32| (krate.to_string(), place.clone(), *rule);
+                self.all.extend(rules.iter().map(one));
+                above.get_or_insert_default().extend(rules);
+            }
+            if let Some(name) = declared(code) {
+                current = above.take().unwrap_or(current);
+                let definition = (krate.to_string(), format!("{file}.{name}"));
+                let here = (place, current.clone());
+                self.of.entry(definition).or_insert(here);
+            } else if comment.is_none() || !code.trim().is_empty() {
+                above = None;
+            }
+        }
+    }
+}
+
+fn citations() -> Citations {
+    let mut found = Citations::default();
+    for line in text("crates.txt").lines() {
+        let krate = line.split(':').next().expect("a crate's name");
+        for file in files(&root().join("crates").join(krate).join("specs"), "antt") {
+            let path = file.strip_prefix(root()).expect("below the root");
+            let path = path.to_string_lossy();
+            found.add(krate, &path, &text(&path));
+        }
+    }
+    found
+}
+
+/// The crates and names in a line of a block.
+fn named(block: &Block, line: &str) -> Vec<Definition> {
+    let of_line = block.lines.iter().filter(|(name, _)| name == line);
+    let lists = of_line.filter_map(|(_, value)| cited(&without_remarks(value)));
+    lists.flatten().collect()
+}
+
+/// Whether a block names something of a crate, or speaks of all functions.
+fn speaks_of(block: &Block, krate: &str) -> bool {
+    let all = |(_, value): &(String, String)| without_remarks(value) == "all";
+    let mut names = LINES[..3].iter().flat_map(|line| named(block, line));
+    names.any(|(other, _)| other == krate) || block.lines.iter().any(all)
+}
+
+/// The citations of rules that are not there, or whose block names nothing of the
+/// crate.
+fn miscited(citations: &Citations, rules: &[u32], blocks: &[Block]) -> Vec<String> {
+    let mut faults = citations.faults.clone();
+    for (krate, place, rule) in &citations.all {
+        let block = blocks.iter().find(|block| block.rules.contains(rule));
+        if !rules.contains(rule) {
+            faults.push(format!("{place}: RULES has no R{rule}"));
+        } else if let Some(block) = block.filter(|block| !speaks_of(block, krate)) {
+            let of = format!("TRACE, line {}, names no {krate}", block.at);
+            faults.push(format!("{place}: R{rule}: {of}"));
+        }
+    }
+    faults
+}
+
+/// Each rule that TRACE has definitions for, and that is not about others, is cited
+/// by one of these definitions.
+fn unstated(citations: &Citations, of_others: &BTreeSet<u32>, blocks: &[Block]) -> Vec<String> {
+    let mut faults = Vec::new();
+    for block in blocks {
+        let names = named(block, "definition");
+        let here = names.iter().filter_map(|name| citations.of.get(name));
+        let here: Vec<&(String, Vec<u32>)> = here.collect();
+        let Some((place, _)) = here.first() else {
+            continue;
+        };
+        for rule in block.rules.iter().filter(|rule| !of_others.contains(rule)) {
+            if !here.iter().any(|(_, cited)| cited.contains(rule)) {
+                let of = format!("no definition of TRACE, line {}, cites it", block.at);
+                faults.push(format!("{place}: R{rule}: {of}"));
+            }
+        }
+    }
+    faults
+}
+
+/// Each definition that TRACE names cites one of the rules that it is named for.
+fn uncited(citations: &Citations, blocks: &[Block]) -> Vec<String> {
+    let mut rules = BTreeMap::<Definition, BTreeSet<u32>>::new();
+    for block in blocks {
+        for name in named(block, "definition") {
+            rules.entry(name).or_default().extend(&block.rules);
+        }
+    }
+    let mut faults = Vec::new();
+    for (definition, rules) in rules {
+        if let Some((place, cited)) = citations.of.get(&definition) {
+            if !cited.iter().any(|rule| rules.contains(rule)) {
+                let name = definition.1;
+                let rules: Vec<String> = rules.iter().map(|rule| format!("R{rule}")).collect();
+                let rules = rules.join(", ");
+                faults.push(format!("{place}: {name} cites none of {rules}"));
+            }
+        }
+    }
+    faults
+}
+
 fn assert_none(faults: Vec<String>) {
     assert!(faults.is_empty(), "\n{}\n", faults.join("\n"));
 }
@@ -284,6 +456,21 @@ fn every_name_is_there() {
     let (names, (blocks, _)) = (names(), blocks(&text("docs/TRACE.md")));
     let faults = blocks.iter().flat_map(|block| misnamed(block, &names));
     assert_none(faults.collect());
+}
+
+#[test]
+fn definitions_cite_their_rules() {
+    let (citations, (blocks, _)) = (citations(), blocks(&text("docs/TRACE.md")));
+    assert!(
+        citations.all.len() > 500,
+        "{} citations",
+        citations.all.len()
+    );
+    let text = text("docs/RULES.md");
+    let mut faults = miscited(&citations, &rules(&text), &blocks);
+    faults.extend(unstated(&citations, &of_others(&text), &blocks));
+    faults.extend(uncited(&citations, &blocks));
+    assert_none(faults);
 }
 
 #[test]
@@ -322,4 +509,45 @@ fn faults_are_seen() {
     assert_eq!(declared("a x = y"), None);
     let code = "impl T {\n    pub fn a(self) -> T\n}\nfn b<'a>(c: u8)\n// a fn d(e)\n";
     assert_eq!(functions(code), ["T::a", "b"]);
+}
+
+/// And of citations.
+#[test]
+fn false_citations_are_seen() {
+    assert_eq!(
+        in_comment(" a (9), b(2) (R1, R3 to R5)"),
+        Ok(vec![1, 3, 4, 5])
+    );
+    assert_eq!(in_comment(" a R2 (R1)"), Err(2));
+    assert_eq!(in_comment(" a (see R2)"), Err(2));
+    let sections = "## 13. a\n**R1** b\n## 14. c\n| R2 | d |\n## 16. e\n**R3** f\n";
+    assert_eq!(of_others(sections), BTreeSet::from([2]));
+    let file = "-- a (R1)\nuse b\n\n-- c\n-- d (R1, R2)\npub e : F\ne = g\n\npub h : F\n\n\
+                pub i : F  -- (R9)\n";
+    let mut found = Citations::default();
+    found.add("wire", "x/A.antt", file);
+    let of = |name: &str| &found.of[&("wire".to_string(), format!("A.{name}"))];
+    assert_eq!(of("e"), &("x/A.antt, line 6".to_string(), vec![1, 2]));
+    assert_eq!(of("h").1, [1, 2]);
+    assert_eq!(of("i").1, [9]);
+    let trace = "### R1, R3: one\n- definition: wire `A.e`, `A.i`\n### R2: two\n- function: all\n\
+                 ### R4: three\n- theorem: entry `a`\n";
+    let (blocks, _) = blocks(trace);
+    let none = BTreeSet::new();
+    let missing = "x/A.antt, line 11: RULES has no R9";
+    assert_eq!(miscited(&found, &[1, 2], &blocks), [missing]);
+    let stray = "x/A.antt, line 6: R3: no definition of TRACE, line 1, cites it";
+    assert_eq!(unstated(&found, &none, &blocks), [stray]);
+    assert!(unstated(&found, &BTreeSet::from([3]), &blocks).is_empty());
+    let bare = "x/A.antt, line 11: A.i cites none of R1, R3";
+    assert_eq!(uncited(&found, &blocks), [bare]);
+    found.add("wire", "x/B.antt", "-- (R4)\n-- R5\n");
+    let (foreign, loose) = (
+        "x/B.antt, line 1: R4: TRACE, line 5, names no wire",
+        "x/B.antt, line 2: R5 is in no list",
+    );
+    assert_eq!(
+        miscited(&found, &[1, 2, 4], &blocks),
+        [loose, missing, foreign]
+    );
 }

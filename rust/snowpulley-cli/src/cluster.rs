@@ -37,10 +37,10 @@ impl Walk {
 pub struct Site {
     pub ids: Vec<u8>,
     pub down: Vec<u8>,
-    pub vnodes: u8,
+    pub vnodes: u32,
     pub salt: u32,
     /// How many owners are asked for.
-    pub count: u8,
+    pub count: u32,
 }
 
 impl Site {
@@ -50,9 +50,9 @@ impl Site {
         Ok(Site {
             ids: args.ids("--ids")?.ok_or_else(missing)?,
             down: args.ids("--down")?.unwrap_or_default(),
-            vnodes: args.number("--vnodes", 1..=64, 8)?,
+            vnodes: args.number("--vnodes", 1..=ring::VNODES_MAX, 8)?,
             salt: args.number("--salt", 0..=u32::MAX, 0)?,
-            count: args.number("--count", 1..=3, 3)?,
+            count: args.number("--count", 1..=ring::OWNERS_MAX, 3)?,
         })
     }
 
@@ -139,7 +139,7 @@ impl Cluster {
 
     fn owners(&self, position: u32, admission: Admission) -> Result<Owners, Failure> {
         let (ring, table, count) = (&self.ring, &self.table, self.site.count);
-        let mut out = vec![0; count.into()];
+        let mut out = vec![0; count as usize];
         match ring::owners(ring, table, position, admission, count, &mut out) {
             Ok(()) => Ok(Some(out)),
             Err(Refusal::TooFew) => Ok(None),

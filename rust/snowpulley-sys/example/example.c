@@ -1,69 +1,216 @@
-/* Makes a store, offers an entry, looks it up, and hands the store two requests. */
+/* Modules of a site: settings are written on module 1, the owners of one are named, the entries
+ * are listed and sent to module 2, and its store is merged into a spare one. C99, and C++11. */
 #include <stdio.h>
 #include <string.h>
 
 #include "snowpulley.h"
 
-#define SLOTS 4
-#define NODE 1
+#define SLOTS 8
+#define VNODES 16
+#define SALT 0xA5A5A5A5u                /* one for the whole site */
+#define MORNING UINT64_C(1736836800000) /* in ms since 1970: 14 January 2025, 06:40 UTC */
 
-static uint8_t store[SP_STORE_BYTES(SLOTS)];
-static uint64_t clock_words[SP_CLOCK_WORDS];
+typedef struct {
+    uint8_t id;
+    uint64_t clock[SP_CLOCK_WORDS];
+    uint8_t store[SP_STORE_BYTES(SLOTS)];
+} module;
+
+static module one, two;
+static uint8_t spare[SP_STORE_BYTES(SLOTS)];
 
 static const uint8_t *bytes(const char *text) { return (const uint8_t *)text; }
 
-/* Prints a result; not 0 if it is a refusal. */
-static int told(const char *what, sp_result result) {
-    printf("%s: refusal %u, answer %u\n", what, (unsigned)SP_REFUSAL(result),
-           (unsigned)SP_ANSWER(result));
-    return SP_REFUSAL(result) != 0;
-}
-
-static int offer_and_look_up(const char *key, const char *value) {
-    uint64_t place[2];
-    int failed = told("offer", sp_store_offer(store, sizeof store, bytes(key), strlen(key),
-                                              bytes(value), strlen(value), 0, 1000, 0, NODE));
-    failed |= told("lookup", sp_store_lookup(store, sizeof store, bytes(key), strlen(key), place,
-                                             2));
-    if (!failed) {
-        printf("%s is %.*s\n", key, (int)place[1], (const char *)store + place[0]);
+/* Tells a refusal, if there is one. */
+static int refused(const char *call, sp_result r) {
+    if (SP_IS_REFUSED(r)) {
+        printf("%s: refused with %s\n", call, sp_refusal_name(SP_REFUSAL(r)));
     }
-    return failed;
+    return SP_IS_REFUSED(r);
 }
 
-/* Hands a request to the store and prints what the reply says. */
-static int request(const char *what, const uint8_t *frame, size_t frame_len, uint64_t now) {
-    uint8_t reply[SP_FRAME_MAX];
+static void create(module *m, uint8_t id) {
+    m->id = id;
+    refused("sp_clock_fresh", sp_clock_fresh(id, m->clock, SP_CLOCK_WORDS));
+    refused("sp_store_create", sp_store_create(m->store, sizeof m->store, SLOTS));
+}
+
+/* ---- Requests and their replies */
+
+static void print_reply(const uint8_t *reply, size_t reply_len) {
     uint64_t fields[SP_FIELDS];
-    sp_result result = sp_handle(store, sizeof store, clock_words, SP_CLOCK_WORDS, now, frame,
-                                 frame_len, reply, sizeof reply);
-    int failed = told(what, result);
-    failed |= told("reply", sp_frame_read(reply, SP_ANSWER(result), fields, SP_FIELDS));
-    if (!failed) {
-        printf("reply of type %d, value [%.*s]\n", (int)fields[0], (int)fields[4],
-               (const char *)reply + fields[3]);
+    if (refused("sp_frame_read", sp_frame_read(reply, reply_len, fields, SP_FIELDS))) {
+        return;
     }
-    return failed;
+    switch (fields[SP_FIELD_TYPE]) {
+    case SP_TYPE_OK:
+        printf("OK\n");
+        break;
+    case SP_TYPE_VALUE:
+        printf("VALUE %.*s\n", (int)fields[SP_FIELD_VALUE_LEN],
+               (const char *)reply + fields[SP_FIELD_VALUE_AT]);
+        break;
+    case SP_TYPE_NOTFOUND:
+        printf("NOTFOUND\n");
+        break;
+    case SP_TYPE_ERR:
+        printf("ERR %s\n", sp_refusal_name((uint32_t)fields[SP_FIELD_NUMBER]));
+        break;
+    }
 }
 
-static int put_and_get(const char *key, const char *value) {
+/* Hands a module a frame, with what its writer answered, and prints the reply. */
+static void request(module *to, uint64_t now, const uint8_t *frame, sp_result written) {
+    uint8_t reply[SP_FRAME_MAX];
+    sp_result r;
+    if (refused("no frame", written)) {
+        return;
+    }
+    r = sp_handle(to->store, sizeof to->store, to->clock, SP_CLOCK_WORDS, now, frame,
+                  SP_ANSWER(written), reply, sizeof reply);
+    /* A refusal is an ERR frame in the reply; of SP_NO_ROOM and SP_BAD_ARGUMENT there is none. */
+    if (SP_ANSWER(r) == 0) {
+        refused("sp_handle", r);
+    } else {
+        print_reply(reply, SP_ANSWER(r));
+    }
+}
+
+static void put(module *to, uint64_t now, const char *key, const char *value) {
     uint8_t frame[SP_FRAME_MAX];
-    sp_result written = sp_write_put(bytes(key), strlen(key), bytes(value), strlen(value), frame,
-                                     sizeof frame);
-    int failed = told("write PUT", written);
-    failed |= request("PUT", frame, SP_ANSWER(written), 2000);
-    written = sp_write_get(bytes(key), strlen(key), frame, sizeof frame);
-    failed |= told("write GET", written);
-    failed |= request("GET", frame, SP_ANSWER(written), 2001);
-    return failed;
+    printf("module %u, PUT %s = %s: ", to->id, key, value);
+    request(to, now, frame, sp_write_put(bytes(key), strlen(key), bytes(value), strlen(value),
+                                         frame, sizeof frame));
+}
+
+static void del(module *to, uint64_t now, const char *key) {
+    uint8_t frame[SP_FRAME_MAX];
+    printf("module %u, DEL %s: ", to->id, key);
+    request(to, now, frame, sp_write_del(bytes(key), strlen(key), frame, sizeof frame));
+}
+
+static void get(module *to, uint64_t now, const char *key) {
+    uint8_t frame[SP_FRAME_MAX];
+    printf("module %u, GET %s: ", to->id, key);
+    request(to, now, frame, sp_write_get(bytes(key), strlen(key), frame, sizeof frame));
+}
+
+/* ---- Owners */
+
+/* Which two of the modules 1 to 4 should hold a key, while module 3 is DOWN? */
+static void print_owners(uint64_t now, const char *key) {
+    static const uint8_t ids[] = {1, 2, 3, 4};
+    static uint64_t peers[SP_PEERS_WORDS], ring[sizeof ids * VNODES];
+    uint32_t position = 0;
+    uint8_t owners[2];
+    sp_result places, r;
+    size_t i;
+
+    refused("sp_peers_fresh",
+            sp_peers_fresh(ids[0], 0x0A000001, 7000, 0, now, peers, SP_PEERS_WORDS));
+    for (i = 1; i < sizeof ids; i++) {
+        refused("sp_peers_add", sp_peers_add(ids[i], 0x0A000001 + (uint32_t)i, 7000, 0, now,
+                                             peers, SP_PEERS_WORDS));
+    }
+    refused("sp_peers_reported",
+            sp_peers_reported(3, SP_STATE_DOWN, 0, now, peers, SP_PEERS_WORDS));
+
+    places = sp_ring_build(ids, sizeof ids, VNODES, SALT, ring, sizeof ids * VNODES);
+    refused("sp_ring_build", places);
+    refused("sp_key_position", sp_key_position(bytes(key), strlen(key), SALT, &position, 1));
+    r = sp_owners(ring, SP_ANSWER(places), peers, SP_PEERS_WORDS, position, SP_STANDING, 2,
+                  owners, sizeof owners);
+    if (!refused("sp_owners", r)) {
+        printf("owners of %s: modules %u and %u\n", key, owners[0], owners[1]);
+    }
+}
+
+/* ---- Listing a store */
+
+/* Sends the entry with these fields to a module, as a REPL frame. */
+static void send_entry(module *to, uint64_t now, const uint8_t *store, const uint64_t *fields) {
+    const uint8_t *key = store + fields[SP_FIELD_KEY_AT];
+    const uint8_t *value = store + fields[SP_FIELD_VALUE_AT];
+    size_t key_len = (size_t)fields[SP_FIELD_KEY_LEN];
+    size_t value_len = (size_t)fields[SP_FIELD_VALUE_LEN];
+    uint8_t frame[SP_FRAME_MAX];
+    printf("module %u, REPL %.*s ", to->id, (int)key_len, (const char *)key);
+    if (fields[SP_FIELD_FLAG] == SP_FLAG_TOMBSTONE) {
+        printf("deleted");
+    } else {
+        printf("= %.*s", (int)value_len, (const char *)value);
+    }
+    printf(" at (%llu, %u, %u): ", (unsigned long long)fields[SP_FIELD_PHYS],
+           (unsigned)fields[SP_FIELD_LOGICAL], (unsigned)fields[SP_FIELD_NODE]);
+    request(to, now, frame,
+            sp_write_repl(key, key_len, value, value_len, (uint32_t)fields[SP_FIELD_FLAG],
+                          fields[SP_FIELD_PHYS], (uint16_t)fields[SP_FIELD_LOGICAL],
+                          (uint8_t)fields[SP_FIELD_NODE], frame, sizeof frame));
+}
+
+static void send_all(const module *from, module *to, uint64_t now) {
+    uint64_t fields[SP_FIELDS];
+    size_t i;
+    for (i = 0;; i++) {
+        sp_result r = sp_store_entry(from->store, sizeof from->store, i, fields, SP_FIELDS);
+        if (SP_REFUSAL(r) == SP_BAD_ARGUMENT) {
+            return; /* the store holds no more */
+        }
+        if (refused("sp_store_entry", r)) {
+            return;
+        }
+        send_entry(to, now, from->store, fields);
+    }
+}
+
+/* ---- The spare store */
+
+static void print_lookup(const char *key) {
+    uint64_t place[SP_PLACE_WORDS];
+    sp_result r = sp_store_lookup(spare, sizeof spare, bytes(key), strlen(key), place,
+                                  SP_PLACE_WORDS);
+    if (refused("sp_store_lookup", r)) {
+        return;
+    }
+    switch (SP_ANSWER(r)) {
+    case SP_LOOKED_VALUE:
+        printf("spare store: %s = %.*s\n", key, (int)place[SP_PLACE_LEN],
+               (const char *)spare + place[SP_PLACE_AT]);
+        break;
+    case SP_LOOKED_DELETED:
+        printf("spare store: %s was deleted\n", key);
+        break;
+    case SP_LOOKED_NEVER:
+        printf("spare store: %s was never seen\n", key);
+        break;
+    }
 }
 
 int main(void) {
-    int failed = told("create", sp_store_create(store, sizeof store, SLOTS));
-    failed |= told("clock", sp_clock_fresh(NODE, clock_words, SP_CLOCK_WORDS));
-    failed |= offer_and_look_up("zero", "-0.25 g");
-    failed |= put_and_get("zero", "+0.50 g");
-    printf("clock at %u, %u\n", (unsigned)clock_words[0], (unsigned)clock_words[1]);
-    printf("sound: %u\n", (unsigned)sp_store_is_sound(store, sizeof store));
-    return failed;
+    create(&one, 1);
+    create(&two, 2);
+
+    put(&one, MORNING, "comp/scale-3", "+120 ppm");
+    put(&one, MORNING + 1, "test-load", "50 kg");
+    put(&one, MORNING + 2, "_sys:boot", "1");
+    del(&one, MORNING + 3, "test-load");
+    print_owners(MORNING + 4, "comp/scale-3");
+
+    send_all(&one, &two, MORNING + 5);
+    get(&two, MORNING + 6, "comp/scale-3");
+    get(&two, MORNING + 7, "test-load");
+
+    refused("sp_store_create", sp_store_create(spare, sizeof spare, SLOTS));
+    refused("sp_store_merge", sp_store_merge(spare, sizeof spare, two.store, sizeof two.store));
+    print_lookup("comp/scale-3");
+    print_lookup("test-load");
+    print_lookup("comp/scale-9");
+    /* The same entries make the same bytes. */
+    if (memcmp(one.store, spare, sizeof spare) != 0) {
+        return 1;
+    }
+
+    spare[100] ^= 1; /* as worn flash may do */
+    print_lookup("comp/scale-3");
+    return 0;
 }

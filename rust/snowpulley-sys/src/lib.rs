@@ -19,22 +19,74 @@ pub const SP_SELF: u16 = 15;
 pub const SP_BAD_RING: u16 = 16;
 pub const SP_BAD_ARGUMENT: u16 = 17;
 
-pub const SP_CLOCK_WORDS: usize = 4;
-pub const SP_PEERS_WORDS: usize = 61;
-
-pub const SP_HOME: u8 = 0;
-pub const SP_STANDING: u8 = 1;
-
+pub const SP_KEY_MAX: usize = 64;
+pub const SP_VALUE_MAX: usize = 512;
 pub const SP_FRAME_MAX: usize = 600;
+pub const SP_SLOTS_MAX: usize = 100;
+pub const SP_PEERS_MAX: usize = 10;
+pub const SP_VNODES_MAX: u32 = 64;
+pub const SP_RING_MAX: usize = 640;
+pub const SP_OWNERS_MAX: u32 = 3;
+pub const SP_TIME_END: u64 = 281474976710656;
+
+pub const SP_CLOCK_WORDS: usize = 4;
+pub const SP_CLOCK_PHYS: usize = 0;
+pub const SP_CLOCK_LOGICAL: usize = 1;
+pub const SP_CLOCK_NODE: usize = 2;
+pub const SP_CLOCK_SKEW_COUNT: usize = 3;
+
+pub const SP_PEERS_WORDS: usize = 61;
+pub const SP_PEERS_COUNT: usize = 0;
+pub const SP_ROW_WORDS: usize = 6;
+pub const SP_ROW_ID: usize = 0;
+pub const SP_ROW_ADDRESS: usize = 1;
+pub const SP_ROW_PORT: usize = 2;
+pub const SP_ROW_STATE: usize = 3;
+pub const SP_ROW_INCARNATION: usize = 4;
+pub const SP_ROW_SEEN: usize = 5;
+
+pub const SP_STATE_ALIVE: u32 = 0;
+pub const SP_STATE_SUSPECT: u32 = 1;
+pub const SP_STATE_DOWN: u32 = 2;
+
+pub const SP_HOME: u32 = 0;
+pub const SP_STANDING: u32 = 1;
+
+pub const SP_TYPE_PUT: u64 = 1;
+pub const SP_TYPE_GET: u64 = 2;
+pub const SP_TYPE_DEL: u64 = 3;
+pub const SP_TYPE_REPL: u64 = 4;
+pub const SP_TYPE_OK: u64 = 16;
+pub const SP_TYPE_VALUE: u64 = 17;
+pub const SP_TYPE_NOTFOUND: u64 = 18;
+pub const SP_TYPE_ERR: u64 = 20;
+
 pub const SP_FIELDS: usize = 10;
+pub const SP_FIELD_TYPE: usize = 0;
+pub const SP_FIELD_KEY_AT: usize = 1;
+pub const SP_FIELD_KEY_LEN: usize = 2;
+pub const SP_FIELD_VALUE_AT: usize = 3;
+pub const SP_FIELD_VALUE_LEN: usize = 4;
+pub const SP_FIELD_FLAG: usize = 5;
+pub const SP_FIELD_PHYS: usize = 6;
+pub const SP_FIELD_LOGICAL: usize = 7;
+pub const SP_FIELD_NODE: usize = 8;
+pub const SP_FIELD_NUMBER: usize = 9;
 
-pub const SP_VALUE: u16 = 0;
-pub const SP_DELETED: u16 = 1;
-pub const SP_NEVER: u16 = 2;
+pub const SP_FLAG_ACTIVE: u32 = 0;
+pub const SP_FLAG_TOMBSTONE: u32 = 1;
 
-pub const SP_STORED: u16 = 0;
-pub const SP_REPLACED: u16 = 1;
-pub const SP_KEPT: u16 = 2;
+pub const SP_LOOKED_VALUE: u16 = 0;
+pub const SP_LOOKED_DELETED: u16 = 1;
+pub const SP_LOOKED_NEVER: u16 = 2;
+
+pub const SP_PLACE_WORDS: usize = 2;
+pub const SP_PLACE_AT: usize = 0;
+pub const SP_PLACE_LEN: usize = 1;
+
+pub const SP_OFFER_STORED: u16 = 0;
+pub const SP_OFFER_REPLACED: u16 = 1;
+pub const SP_OFFER_KEPT: u16 = 2;
 
 extern "C" {
     pub fn sp_crc32c(bytes: *const u8, bytes_len: usize) -> u32;
@@ -77,7 +129,7 @@ extern "C" {
     ) -> u32;
     pub fn sp_peers_reported(
         id: u8,
-        state: u8,
+        state: u32,
         incarnation: u32,
         now: u64,
         table: *mut u64,
@@ -97,7 +149,7 @@ extern "C" {
     pub fn sp_ring_build(
         ids: *const u8,
         ids_len: usize,
-        vnodes: u8,
+        vnodes: u32,
         salt: u32,
         ring: *mut u64,
         ring_len: usize,
@@ -109,8 +161,8 @@ extern "C" {
         table: *const u64,
         table_len: usize,
         position: u32,
-        admission: u8,
-        count: u8,
+        admission: u32,
+        count: u32,
         out: *mut u8,
         out_len: usize,
     ) -> u32;
@@ -136,7 +188,7 @@ extern "C" {
         key_len: usize,
         value: *const u8,
         value_len: usize,
-        flag: u8,
+        flag: u32,
         phys: u64,
         logical: u16,
         node: u8,
@@ -146,7 +198,7 @@ extern "C" {
     pub fn sp_write_ok(out: *mut u8, out_len: usize) -> u32;
     pub fn sp_write_value(value: *const u8, value_len: usize, out: *mut u8, out_len: usize) -> u32;
     pub fn sp_write_not_found(out: *mut u8, out_len: usize) -> u32;
-    pub fn sp_write_err(number: u8, out: *mut u8, out_len: usize) -> u32;
+    pub fn sp_write_err(number: u32, out: *mut u8, out_len: usize) -> u32;
 
     pub fn sp_store_create(store: *mut u8, store_len: usize, slots: usize) -> u32;
     pub fn sp_store_is_sound(store: *const u8, store_len: usize) -> u32;
@@ -158,6 +210,13 @@ extern "C" {
         place: *mut u64,
         place_len: usize,
     ) -> u32;
+    pub fn sp_store_entry(
+        store: *const u8,
+        store_len: usize,
+        i: usize,
+        fields: *mut u64,
+        fields_len: usize,
+    ) -> u32;
     pub fn sp_store_offer(
         store: *mut u8,
         store_len: usize,
@@ -165,7 +224,7 @@ extern "C" {
         key_len: usize,
         value: *const u8,
         value_len: usize,
-        flag: u8,
+        flag: u32,
         phys: u64,
         logical: u16,
         node: u8,

@@ -1,42 +1,32 @@
-//! The C example compiles without a warning, links and tells what it should.
+//! The example compiles without a warning, links and tells what it should, as C
+//! and as C++.
 
-use std::path::Path;
-use std::process::Command;
+mod compile;
+
+use compile::{root, run, C, CPP};
 
 const EXPECTED: &str = "\
-create: refusal 0, answer 0
-clock: refusal 0, answer 0
-offer: refusal 0, answer 0
-lookup: refusal 0, answer 0
-zero is -0.25 g
-write PUT: refusal 0, answer 22
-PUT: refusal 0, answer 8
-reply: refusal 0, answer 0
-reply of type 16, value []
-write GET: refusal 0, answer 13
-GET: refusal 0, answer 17
-reply: refusal 0, answer 0
-reply of type 17, value [+0.50 g]
-clock at 2000, 0
-sound: 1
+module 1, PUT comp/scale-3 = +120 ppm: OK
+module 1, PUT test-load = 50 kg: OK
+module 1, PUT _sys:boot = 1: no frame: refused with BAD_KEY
+module 1, DEL test-load: OK
+owners of comp/scale-3: modules 2 and 4
+module 2, REPL comp/scale-3 = +120 ppm at (1736836800000, 0, 1): OK
+module 2, REPL test-load deleted at (1736836800003, 0, 1): OK
+module 2, GET comp/scale-3: VALUE +120 ppm
+module 2, GET test-load: NOTFOUND
+spare store: comp/scale-3 = +120 ppm
+spare store: test-load was deleted
+spare store: comp/scale-9 was never seen
+sp_store_lookup: refused with BAD_STORE
 ";
 
 #[test]
-fn example_tells_what_it_should() {
-    let here = Path::new(env!("CARGO_MANIFEST_DIR"));
-    let program = Path::new(env!("CARGO_TARGET_TMPDIR")).join("example");
-    let status = Command::new("cc")
-        .args(["-std=c99", "-Wall", "-Wextra", "-Werror", "-pedantic"])
-        .arg("-I")
-        .arg(here.join("../../include"))
-        .arg(here.join("example/example.c"))
-        .arg(env!("CAPI_ARCHIVE"))
-        .arg("-o")
-        .arg(&program)
-        .status()
-        .expect("a C compiler runs");
-    assert!(status.success());
-    let output = Command::new(&program).output().expect("the example runs");
-    assert_eq!(String::from_utf8_lossy(&output.stdout), EXPECTED);
-    assert!(output.status.success());
+fn the_example_tells_what_it_should() {
+    let source = root().join("rust/snowpulley-sys/example/example.c");
+    for (name, language) in [("example-c", C), ("example-cpp", CPP)] {
+        let output = run(name, language, &source);
+        assert_eq!(String::from_utf8_lossy(&output.stdout), EXPECTED, "{name}");
+        assert!(output.status.success(), "{name}");
+    }
 }

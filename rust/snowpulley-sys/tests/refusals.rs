@@ -1,36 +1,12 @@
 //! A refusal has one name and one number: in the proved code, in its
 //! definition, in the header and in the second program's table.
 
-use std::path::{Path, PathBuf};
+mod sources;
+
+use sources::{code, header, text};
 
 /// The names and numbers of a table, in its order.
 type Table = Vec<(String, u64)>;
-
-/// Where the repository begins, seen from this package.
-const ROOT: &str = "../..";
-/// The second program's table, seen from there.
-const REFERENCE: &str = "rust/reference/src/refusal.rs";
-
-fn path(below_root: &str) -> PathBuf {
-    let package = Path::new(env!("CARGO_MANIFEST_DIR"));
-    package.join(ROOT).join(below_root)
-}
-
-fn text(below_root: &str) -> String {
-    std::fs::read_to_string(path(below_root)).expect(below_root)
-}
-
-/// All code of the crate that declares the refusals.
-fn code() -> String {
-    let mut files: Vec<PathBuf> = std::fs::read_dir(path("crates/entry/src"))
-        .expect("the crate's code")
-        .map(|file| file.expect("a file").path())
-        .filter(|file| file.extension().is_some_and(|e| e == "rt"))
-        .collect();
-    files.sort();
-    let read = |file: &PathBuf| std::fs::read_to_string(file).expect("a text");
-    files.iter().map(read).collect::<Vec<_>>().join("\n")
-}
 
 /// The lines after the one that reads `open`, up to the one that reads `close`.
 fn block<'a>(text: &'a str, open: &str, close: &str) -> Vec<&'a str> {
@@ -99,9 +75,23 @@ fn last_number(specs: &str) -> u64 {
     line.expect("lastNumber").trim().parse().expect("a number")
 }
 
-fn header(header: &str) -> Table {
-    let lines = block(header, "/* Refusals. */", "");
-    numbered(lines.into_iter(), "#define SP_", " ")
+/// The header's list.
+fn listed(header: &str) -> Table {
+    let lines = block(header, "/* Refusals. */", "").into_iter();
+    let defines = lines.filter_map(|line| line.split("/*").next());
+    numbered(defines, "#define SP_", " ")
+}
+
+/// What the header's `sp_refusal_name` returns for each constant.
+fn returned(header: &str) -> Vec<(String, String)> {
+    let cases = header.lines().filter_map(|line| {
+        let (constant, rest) = line
+            .trim()
+            .strip_prefix("case SP_")?
+            .split_once(": return \"")?;
+        Some((constant.to_string(), rest.strip_suffix("\";")?.to_string()))
+    });
+    cases.collect()
 }
 
 /// The second program's table.
@@ -112,14 +102,18 @@ fn reference(model: &str) -> Table {
 
 #[test]
 fn one_name_and_one_number() {
-    let (code, specs) = (code(), text("crates/entry/specs/Refusal.antt"));
-    let model = text(REFERENCE);
+    let (code, specs) = (code("entry"), text("crates/entry/specs/Refusal.antt"));
+    let model = text("rust/reference/src/refusal.rs");
     let right = cases(&code);
     assert!(right.len() >= 17, "the enum has {} cases", right.len());
     assert_eq!(numbers(&code), right, "the code's numbers");
     assert_eq!(definition(&specs), right, "the definition");
     assert_eq!(last_number(&specs), right.len() as u64, "lastNumber");
-    assert_eq!(header(&text("include/snowpulley.h")), right, "the header");
+    let header = header();
+    assert_eq!(listed(&header), right, "the header");
+    let named = right.iter().map(|(name, _)| (name.clone(), name.clone()));
+    let named: Vec<_> = named.collect();
+    assert_eq!(returned(&header), named, "sp_refusal_name");
     assert_eq!(reference(&model), right, "the second program");
 }
 
@@ -129,10 +123,11 @@ fn differences_are_seen() {
     let code = "pub enum Refusal {\n    BadKey,\n    // SELF\n    OwnPeer,\n}\n";
     let right = cases(code);
     assert_eq!(right, [("BAD_KEY".to_string(), 1), ("SELF".to_string(), 2)]);
-    let lines = "/* Refusals. */\n#define SP_BAD_KEY 1\n#define SP_SELF 2\n\n#define SP_X 3\n";
-    assert_eq!(header(lines), right);
+    let lines = "/* Refusals. */\n#define SP_BAD_KEY 1 /* a key */\n#define SP_SELF 2\n\n\
+                 #define SP_X 3\n    case SP_SELF: return \"SELF\";\n";
+    assert_eq!(listed(lines), right);
     for (old, new) in [
-        ("#define SP_BAD_KEY 1\n", ""),
+        ("#define SP_BAD_KEY 1", ""),
         ("BAD_KEY", "BAD_KEYS"),
         ("SELF 2", "SELF 3"),
         (
@@ -140,8 +135,14 @@ fn differences_are_seen() {
             "#define SP_SELF 2\n#define SP_STALE 3\n",
         ),
     ] {
-        assert_ne!(header(&lines.replace(old, new)), right, "{old} as {new}");
+        assert_ne!(listed(&lines.replace(old, new)), right, "{old} as {new}");
     }
+    let self_named = [("SELF".to_string(), "SELF".to_string())];
+    assert_eq!(returned(lines), self_named);
+    assert_ne!(
+        returned(&lines.replace("\"SELF\"", "\"SELVES\"")),
+        self_named
+    );
     let defined = "number refusal.BadKey = 1\nnumber refusal.OwnPeer = 2\nlastNumber = 2\n";
     assert_eq!(definition(defined), right);
     assert_eq!(last_number(defined), 2);

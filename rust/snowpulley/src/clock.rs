@@ -3,7 +3,9 @@
 use crate::entry::Stamp;
 use crate::raw;
 use crate::refusal::{split, Refusal};
-use snowpulley_sys::SP_CLOCK_WORDS;
+use snowpulley_sys::{
+    SP_CLOCK_LOGICAL, SP_CLOCK_NODE, SP_CLOCK_PHYS, SP_CLOCK_SKEW_COUNT, SP_CLOCK_WORDS,
+};
 
 #[derive(Clone, Copy, Debug, PartialEq, Eq)]
 pub struct Clock {
@@ -41,22 +43,21 @@ impl Clock {
     }
 
     pub fn words(self) -> [u64; SP_CLOCK_WORDS] {
-        [
-            self.phys,
-            self.logical.into(),
-            self.node.into(),
-            self.skew.into(),
-        ]
+        let mut words = [0; SP_CLOCK_WORDS];
+        words[SP_CLOCK_PHYS] = self.phys;
+        words[SP_CLOCK_LOGICAL] = self.logical.into();
+        words[SP_CLOCK_NODE] = self.node.into();
+        words[SP_CLOCK_SKEW_COUNT] = self.skew.into();
+        words
     }
 
     /// None where a word is out of its range.
     pub fn from_words(words: [u64; SP_CLOCK_WORDS]) -> Option<Clock> {
-        let [phys, logical, node, skew] = words;
         Some(Clock {
-            phys,
-            logical: logical.try_into().ok()?,
-            node: node.try_into().ok()?,
-            skew: skew.try_into().ok()?,
+            phys: words[SP_CLOCK_PHYS],
+            logical: words[SP_CLOCK_LOGICAL].try_into().ok()?,
+            node: words[SP_CLOCK_NODE].try_into().ok()?,
+            skew: words[SP_CLOCK_SKEW_COUNT].try_into().ok()?,
         })
     }
 

@@ -1,10 +1,8 @@
 //! Entries, with their stamps: what a store holds and a REPL frame carries.
 
 use crate::ring::key_position;
+use snowpulley_sys::{SP_FLAG_ACTIVE, SP_FLAG_TOMBSTONE};
 use std::fmt;
-
-pub(crate) const ACTIVE: u8 = 0;
-pub(crate) const TOMBSTONE: u8 = 1;
 
 /// A stamp; the order of the fields is the order of comparison.
 #[derive(Clone, Copy, Debug, PartialEq, Eq, PartialOrd, Ord)]
@@ -28,10 +26,10 @@ pub enum Content<'a> {
 }
 
 impl<'a> Content<'a> {
-    pub(crate) fn flag(self) -> u8 {
+    pub(crate) fn flag(self) -> u32 {
         match self {
-            Content::Active(_) => ACTIVE,
-            Content::Tombstone => TOMBSTONE,
+            Content::Active(_) => SP_FLAG_ACTIVE,
+            Content::Tombstone => SP_FLAG_TOMBSTONE,
         }
     }
 
@@ -44,10 +42,10 @@ impl<'a> Content<'a> {
     }
 
     /// By a flag that is 0 or 1.
-    pub(crate) fn returned(flag: u8, value: &'a [u8]) -> Content<'a> {
+    pub(crate) fn returned(flag: u32, value: &'a [u8]) -> Content<'a> {
         match flag {
-            ACTIVE => Content::Active(value),
-            TOMBSTONE => Content::Tombstone,
+            SP_FLAG_ACTIVE => Content::Active(value),
+            SP_FLAG_TOMBSTONE => Content::Tombstone,
             other => panic!("the header has no flag {other}"),
         }
     }

@@ -1,9 +1,10 @@
 //! Reading and writing frames.
 
-use crate::entry::{Content, Entry, Stamp};
+use crate::entry::Entry;
+use crate::fields::Fields;
 use crate::raw;
 use crate::refusal::{split, Refusal};
-use snowpulley_sys::SP_FIELDS;
+use snowpulley_sys as header;
 use std::ops::RangeInclusive;
 
 pub use snowpulley_sys::SP_FRAME_MAX as FRAME_MAX;
@@ -12,15 +13,6 @@ pub use snowpulley_sys::SP_FRAME_MAX as FRAME_MAX;
 pub const LEN_BYTES: usize = 2;
 /// What LEN may be: it counts what comes after it.
 pub const LEN_RANGE: RangeInclusive<usize> = 6..=FRAME_MAX - LEN_BYTES;
-
-const PUT: u64 = 1;
-const GET: u64 = 2;
-const DEL: u64 = 3;
-const REPL: u64 = 4;
-const OK: u64 = 16;
-const VALUE: u64 = 17;
-const NOTFOUND: u64 = 18;
-const ERR: u64 = 20;
 
 /// What a frame says; keys and values are parts of the frame.
 #[derive(Clone, Copy, Debug, PartialEq, Eq)]
@@ -37,35 +29,24 @@ pub enum Message<'a> {
 
 /// Reads exactly one frame.
 pub fn read(frame: &[u8]) -> Result<Message<'_>, Refusal> {
-    let mut words = [0; SP_FIELDS];
+    let mut words = [0; header::SP_FIELDS];
     split(raw::frame_read(frame, &mut words))?;
-    Ok(message(frame, words))
+    let bytes = frame;
+    Ok(message(&Fields { bytes, words }))
 }
 
-fn message(frame: &[u8], words: [u64; SP_FIELDS]) -> Message<'_> {
-    let [kind, key_at, key_length, value_at, value_length, flag, phys, logical, node, number] =
-        words;
-    let part = |at: u64, length: u64| &frame[at as usize..(at + length) as usize];
-    let key = part(key_at, key_length);
-    let value = part(value_at, value_length);
-    match kind {
-        PUT => Message::Put { key, value },
-        GET => Message::Get { key },
-        DEL => Message::Del { key },
-        REPL => Message::Repl(Entry {
-            key,
-            content: Content::returned(flag as u8, value),
-            stamp: Stamp {
-                phys,
-                logical: logical as u16,
-                node: node as u8,
-            },
-        }),
-        OK => Message::Ok,
-        VALUE => Message::Value { value },
-        NOTFOUND => Message::NotFound,
-        ERR => Message::Err {
-            number: number as u8,
+fn message<'a>(fields: &Fields<'a>) -> Message<'a> {
+    let (key, value) = (fields.key(), fields.value());
+    match fields.kind() {
+        header::SP_TYPE_PUT => Message::Put { key, value },
+        header::SP_TYPE_GET => Message::Get { key },
+        header::SP_TYPE_DEL => Message::Del { key },
+        header::SP_TYPE_REPL => Message::Repl(fields.entry()),
+        header::SP_TYPE_OK => Message::Ok,
+        header::SP_TYPE_VALUE => Message::Value { value },
+        header::SP_TYPE_NOTFOUND => Message::NotFound,
+        header::SP_TYPE_ERR => Message::Err {
+            number: fields.number(),
         },
         other => panic!("the header has no frame type {other}"),
     }
@@ -89,7 +70,7 @@ impl Message<'_> {
             Message::Ok => raw::write_ok(out),
             Message::Value { value } => raw::write_value(value, out),
             Message::NotFound => raw::write_not_found(out),
-            Message::Err { number } => raw::write_err(number, out),
+            Message::Err { number } => raw::write_err(number.into(), out),
         };
         split(result).map(usize::from)
     }

@@ -1,16 +1,17 @@
 //! The layout of a store image, as `docs/FORMAT.md` draws it. It reads what
-//! the header has no function for: the entries one after another, and images
-//! that are not sound.
+//! the header has no function for: images that are not sound.
 
 use crate::checksum::crc32c;
-use crate::entry::{Content, Entry, Stamp};
+use crate::entry::Stamp;
+use snowpulley_sys::SP_SLOTS_MAX;
 use std::ops::{Range, RangeInclusive};
 
-pub const SLOTS: RangeInclusive<usize> = 1..=100;
+pub use snowpulley_sys::SP_KEY_MAX as KEY_MAX;
+pub use snowpulley_sys::SP_VALUE_MAX as VALUE_MAX;
+
+pub const SLOTS: RangeInclusive<usize> = 1..=SP_SLOTS_MAX;
 pub const HEADER_BYTES: usize = 16;
 pub const SLOT_BYTES: usize = 596;
-pub const KEY_MAX: usize = 64;
-pub const VALUE_MAX: usize = 512;
 
 // A slot's fields.
 const KEY_LENGTH: usize = 0;
@@ -117,14 +118,5 @@ impl<'a> Slot<'a> {
     pub fn checksum_is_right(self) -> bool {
         let stated = number(&self.bytes[CHECKSUM]);
         u64::from(crc32c(&self.bytes[..CHECKSUM.start])) == stated
-    }
-
-    /// The entry of a used slot of a sound store.
-    pub(crate) fn entry(self) -> Entry<'a> {
-        Entry {
-            key: self.key().0,
-            content: Content::returned(self.flag(), self.value().0),
-            stamp: self.stamp(),
-        }
     }
 }

@@ -7,6 +7,7 @@
 pub mod checksum;
 pub mod clock;
 pub mod entry;
+mod fields;
 pub mod frame;
 pub mod handler;
 pub mod image;

@@ -2,18 +2,18 @@
 
 use crate::raw;
 use crate::refusal::{split, Refusal};
-use snowpulley_sys::SP_PEERS_WORDS;
+use snowpulley_sys as header;
+use snowpulley_sys::{SP_PEERS_COUNT, SP_PEERS_WORDS, SP_ROW_WORDS};
 
-pub const ROWS_MAX: usize = 10;
-const ROW_WORDS: usize = 6;
+pub use snowpulley_sys::SP_PEERS_MAX as ROWS_MAX;
 
 /// A peer's state; a later one is worse.
 #[derive(Clone, Copy, Debug, PartialEq, Eq, PartialOrd, Ord)]
-#[repr(u8)]
+#[repr(u32)]
 pub enum State {
-    Alive = 0,
-    Suspect = 1,
-    Down = 2,
+    Alive = header::SP_STATE_ALIVE,
+    Suspect = header::SP_STATE_SUSPECT,
+    Down = header::SP_STATE_DOWN,
 }
 
 impl State {
@@ -34,26 +34,26 @@ pub struct Row {
 }
 
 impl Row {
-    fn words(&self) -> [u64; ROW_WORDS] {
-        [
-            self.id.into(),
-            u32::from_be_bytes(self.address).into(),
-            self.port.into(),
-            self.state as u64,
-            self.incarnation.into(),
-            self.seen,
-        ]
+    fn words(&self) -> [u64; SP_ROW_WORDS] {
+        let mut words = [0; SP_ROW_WORDS];
+        words[header::SP_ROW_ID] = self.id.into();
+        words[header::SP_ROW_ADDRESS] = u32::from_be_bytes(self.address).into();
+        words[header::SP_ROW_PORT] = self.port.into();
+        words[header::SP_ROW_STATE] = self.state as u64;
+        words[header::SP_ROW_INCARNATION] = self.incarnation.into();
+        words[header::SP_ROW_SEEN] = self.seen;
+        words
     }
 
-    fn from_words(words: &[u64]) -> Option<Row> {
-        let [id, address, port, state, incarnation, seen] = words.try_into().ok()?;
+    fn from_words(words: &[u64; SP_ROW_WORDS]) -> Option<Row> {
+        let address = u32::try_from(words[header::SP_ROW_ADDRESS]).ok()?;
         Some(Row {
-            id: id.try_into().ok()?,
-            address: u32::try_from(address).ok()?.to_be_bytes(),
-            port: port.try_into().ok()?,
-            state: State::from_word(state)?,
-            incarnation: incarnation.try_into().ok()?,
-            seen,
+            id: words[header::SP_ROW_ID].try_into().ok()?,
+            address: address.to_be_bytes(),
+            port: words[header::SP_ROW_PORT].try_into().ok()?,
+            state: State::from_word(words[header::SP_ROW_STATE])?,
+            incarnation: words[header::SP_ROW_INCARNATION].try_into().ok()?,
+            seen: words[header::SP_ROW_SEEN],
         })
     }
 }
@@ -112,7 +112,7 @@ impl PeerTable {
         incarnation: u32,
         now: u64,
     ) -> Result<(), Refusal> {
-        self.step(|words| raw::peers_reported(id, state as u8, incarnation, now, words))
+        self.step(|words| raw::peers_reported(id, state as u32, incarnation, now, words))
     }
 
     /// Time has passed.
@@ -126,22 +126,21 @@ impl PeerTable {
 
     pub fn words(&self) -> [u64; SP_PEERS_WORDS] {
         let mut words = [0; SP_PEERS_WORDS];
-        words[0] = self.count.into();
-        for (place, row) in words[1..].chunks_exact_mut(ROW_WORDS).zip(&self.rows) {
-            place.copy_from_slice(&row.words());
+        words[SP_PEERS_COUNT] = self.count.into();
+        let (places, _) = words[SP_PEERS_COUNT + 1..].as_chunks_mut();
+        for (place, row) in places.iter_mut().zip(&self.rows) {
+            *place = row.words();
         }
         words
     }
 
     /// None where a field cannot hold its word.
     pub fn from_words(words: &[u64; SP_PEERS_WORDS]) -> Option<PeerTable> {
-        let rows: Option<Vec<Row>> = words[1..]
-            .chunks_exact(ROW_WORDS)
-            .map(Row::from_words)
-            .collect();
+        let (rows, _) = words[SP_PEERS_COUNT + 1..].as_chunks();
+        let rows: Option<Vec<Row>> = rows.iter().map(Row::from_words).collect();
         Some(PeerTable {
             rows: rows?.try_into().ok()?,
-            count: words[0].try_into().ok()?,
+            count: words[SP_PEERS_COUNT].try_into().ok()?,
         })
     }
 

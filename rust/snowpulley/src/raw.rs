@@ -58,7 +58,7 @@ pub fn peers_heard(id: u8, incarnation: u32, now: u64, table: &mut [u64]) -> u32
     unsafe { ffi::sp_peers_heard(id, incarnation, now, table.as_mut_ptr(), table.len()) }
 }
 
-pub fn peers_reported(id: u8, state: u8, incarnation: u32, now: u64, table: &mut [u64]) -> u32 {
+pub fn peers_reported(id: u8, state: u32, incarnation: u32, now: u64, table: &mut [u64]) -> u32 {
     let (words, len) = (table.as_mut_ptr(), table.len());
     unsafe { ffi::sp_peers_reported(id, state, incarnation, now, words, len) }
 }
@@ -80,7 +80,7 @@ pub fn key_position(key: &[u8], salt: u32, position: &mut [u32]) -> u32 {
     unsafe { ffi::sp_key_position(key.as_ptr(), key.len(), salt, words, len) }
 }
 
-pub fn ring_build(ids: &[u8], vnodes: u8, salt: u32, ring: &mut [u64]) -> u32 {
+pub fn ring_build(ids: &[u8], vnodes: u32, salt: u32, ring: &mut [u64]) -> u32 {
     let (places, len) = (ring.as_mut_ptr(), ring.len());
     unsafe { ffi::sp_ring_build(ids.as_ptr(), ids.len(), vnodes, salt, places, len) }
 }
@@ -93,8 +93,8 @@ pub fn owners(
     ring: &[u64],
     table: &[u64],
     position: u32,
-    admission: u8,
-    count: u8,
+    admission: u32,
+    count: u32,
     out: &mut [u8],
 ) -> u32 {
     unsafe {
@@ -141,7 +141,7 @@ pub fn write_del(key: &[u8], out: &mut [u8]) -> u32 {
 pub fn write_repl(
     key: &[u8],
     value: &[u8],
-    flag: u8,
+    flag: u32,
     phys: u64,
     logical: u16,
     node: u8,
@@ -175,7 +175,7 @@ pub fn write_not_found(out: &mut [u8]) -> u32 {
     unsafe { ffi::sp_write_not_found(out.as_mut_ptr(), out.len()) }
 }
 
-pub fn write_err(number: u8, out: &mut [u8]) -> u32 {
+pub fn write_err(number: u32, out: &mut [u8]) -> u32 {
     unsafe { ffi::sp_write_err(number, out.as_mut_ptr(), out.len()) }
 }
 
@@ -200,11 +200,16 @@ pub fn store_lookup(store: &[u8], key: &[u8], place: &mut [u64]) -> u32 {
     }
 }
 
+pub fn store_entry(store: &[u8], i: usize, fields: &mut [u64]) -> u32 {
+    let (words, len) = (fields.as_mut_ptr(), fields.len());
+    unsafe { ffi::sp_store_entry(store.as_ptr(), store.len(), i, words, len) }
+}
+
 pub fn store_offer(
     store: &mut [u8],
     key: &[u8],
     value: &[u8],
-    flag: u8,
+    flag: u32,
     phys: u64,
     logical: u16,
     node: u8,

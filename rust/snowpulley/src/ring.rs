@@ -6,19 +6,19 @@ use crate::refusal::{split, Refusal};
 use snowpulley_sys::{SP_HOME, SP_STANDING};
 
 pub use crate::raw::token;
+pub use snowpulley_sys::SP_OWNERS_MAX as OWNERS_MAX;
+pub use snowpulley_sys::SP_RING_MAX as PLACES_MAX;
+pub use snowpulley_sys::SP_VNODES_MAX as VNODES_MAX;
 
 /// Who is admitted to an owner list.
 #[derive(Clone, Copy, Debug, PartialEq, Eq)]
-#[repr(u8)]
+#[repr(u32)]
 pub enum Admission {
     /// Every peer with a row.
     Home = SP_HOME,
     /// Every peer with a row that is not DOWN.
     Standing = SP_STANDING,
 }
-
-/// The most places that a ring has.
-pub const PLACES_MAX: usize = 640;
 
 /// Where one of a module's vnodes stands on the ring.
 #[derive(Clone, Copy, Debug, PartialEq, Eq, PartialOrd, Ord)]
@@ -47,12 +47,12 @@ pub fn key_position(key: &[u8], salt: u32) -> Result<u32, Refusal> {
 }
 
 /// Fills the front of `ring`; the number of places.
-pub fn build(ids: &[u8], vnodes: u8, salt: u32, ring: &mut [u64]) -> Result<usize, Refusal> {
+pub fn build(ids: &[u8], vnodes: u32, salt: u32, ring: &mut [u64]) -> Result<usize, Refusal> {
     split(raw::ring_build(ids, vnodes, salt, ring)).map(usize::from)
 }
 
 /// The ring of some ids.
-pub fn built(ids: &[u8], vnodes: u8, salt: u32) -> Result<Vec<u64>, Refusal> {
+pub fn built(ids: &[u8], vnodes: u32, salt: u32) -> Result<Vec<u64>, Refusal> {
     let mut ring = vec![0; PLACES_MAX];
     let count = build(ids, vnodes, salt, &mut ring)?;
     ring.truncate(count);
@@ -69,7 +69,7 @@ pub fn owners(
     table: &PeerTable,
     position: u32,
     admission: Admission,
-    count: u8,
+    count: u32,
     out: &mut [u8],
 ) -> Result<(), Refusal> {
     let words = table.words();
@@ -77,7 +77,7 @@ pub fn owners(
         ring,
         &words,
         position,
-        admission as u8,
+        admission as u32,
         count,
         out,
     ))?;

@@ -1,6 +1,7 @@
 //! The store.
 
 use crate::entry::Entry;
+use crate::fields::Fields;
 use crate::image;
 use crate::raw;
 use crate::refusal::{split, Refusal};
@@ -46,25 +47,36 @@ pub fn is_sound(store: &[u8]) -> bool {
 }
 
 pub fn lookup<'a>(store: &'a [u8], key: &[u8]) -> Result<Found<'a>, Refusal> {
-    let mut place = [0; 2];
+    let mut place = [0; header::SP_PLACE_WORDS];
     match split(raw::store_lookup(store, key, &mut place))? {
-        header::SP_VALUE => {
-            let [at, length] = place.map(|word| word as usize);
+        header::SP_LOOKED_VALUE => {
+            let place = place.map(|word| word as usize);
+            let (at, length) = (place[header::SP_PLACE_AT], place[header::SP_PLACE_LEN]);
             Ok(Found::Value(&store[at..at + length]))
         }
-        header::SP_DELETED => Ok(Found::Deleted),
-        header::SP_NEVER => Ok(Found::Never),
+        header::SP_LOOKED_DELETED => Ok(Found::Deleted),
+        header::SP_LOOKED_NEVER => Ok(Found::Never),
         other => panic!("the header has no lookup answer {other}"),
+    }
+}
+
+/// The held entry with this number, counted from 0 in the order of the keys;
+/// none past the last.
+pub fn entry(store: &[u8], i: usize) -> Result<Option<Entry<'_>>, Refusal> {
+    let mut words = [0; header::SP_FIELDS];
+    match split(raw::store_entry(store, i, &mut words)) {
+        Ok(_) => {
+            let bytes = store;
+            Ok(Some(Fields { bytes, words }.entry()))
+        }
+        Err(Refusal::BadArgument) => Ok(None),
+        Err(refusal) => Err(refusal),
     }
 }
 
 /// The held entries in the order of their keys.
 pub fn entries(store: &[u8]) -> Result<Vec<Entry<'_>>, Refusal> {
-    if !is_sound(store) {
-        return Err(Refusal::BadStore);
-    }
-    let used = image::slots(store).take_while(|slot| !slot.is_zero());
-    Ok(used.map(image::Slot::entry).collect())
+    (0..).map_while(|i| entry(store, i).transpose()).collect()
 }
 
 /// Offers one entry.
@@ -84,9 +96,9 @@ pub fn offer(store: &mut [u8], entry: &Entry<'_>) -> Result<Offered, Refusal> {
         stamp.node,
     );
     match split(result)? {
-        header::SP_STORED => Ok(Offered::Stored),
-        header::SP_REPLACED => Ok(Offered::Replaced),
-        header::SP_KEPT => Ok(Offered::Kept),
+        header::SP_OFFER_STORED => Ok(Offered::Stored),
+        header::SP_OFFER_REPLACED => Ok(Offered::Replaced),
+        header::SP_OFFER_KEPT => Ok(Offered::Kept),
         other => panic!("the header has no offer answer {other}"),
     }
 }

@@ -9,13 +9,21 @@ fn header_table() -> Vec<(String, u16)> {
     let header = std::fs::read_to_string(path).expect("the header is there");
     let (_, rest) = header.split_once("/* Refusals. */\n").expect("their list");
     let (list, _) = rest.split_once("\n\n").expect("an end of the list");
-    list.lines().map(define).collect()
+    list.lines()
+        .filter(|line| !continues(line))
+        .map(define)
+        .collect()
 }
 
-/// `#define NAME NUMBER` taken apart.
+/// Whether a line goes on with the comment of the line before it.
+fn continues(line: &str) -> bool {
+    line.trim_start().starts_with("* ")
+}
+
+/// `#define NAME NUMBER` taken apart; a comment may follow.
 fn define(line: &str) -> (String, u16) {
     let words: Vec<&str> = line.split_whitespace().collect();
-    let ["#define", name, number] = words[..] else {
+    let ["#define", name, number, ..] = words[..] else {
         panic!("not a number of the list: {line}");
     };
     (name.to_string(), number.parse().expect("a number"))

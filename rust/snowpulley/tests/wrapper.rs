@@ -9,7 +9,7 @@ use snowpulley::image::{self, Header};
 use snowpulley::peers::{PeerTable, State};
 use snowpulley::ring::{self, Admission, Place};
 use snowpulley::store::{self, Found, Offered};
-use snowpulley::{checksum, Refusal};
+use snowpulley::{checksum, raw, Refusal};
 
 const LATE: u64 = 1 << 48;
 
@@ -246,14 +246,46 @@ fn stores() {
     assert_eq!(store::lookup(&one, b"b"), Ok(Found::Deleted));
     assert_eq!(store::lookup(&one, b"c"), Ok(Found::Never));
     let held = vec![active(b"a", b"z", 6), tombstone(b"b", 6)];
+    for (i, entry) in held.iter().enumerate() {
+        assert_eq!(store::entry(&one, i), Ok(Some(*entry)));
+    }
+    assert_eq!(store::entry(&one, 2), Ok(None));
+    assert_eq!(store::entry(&one, usize::MAX), Ok(None));
     assert_eq!(store::entries(&one), Ok(held));
+    assert_eq!(store::entries(&store::fresh(1).unwrap()), Ok(vec![]));
     let mut two = store::fresh(2).unwrap();
     assert_eq!(store::merge(&mut two, &one), Ok(()));
     assert_eq!(one, two);
     two[2] = 9;
     assert!(!store::is_sound(&two));
+    assert_eq!(store::entry(&two, 0), Err(Refusal::BadStore));
     assert_eq!(store::entries(&two), Err(Refusal::BadStore));
     assert_eq!(store::merge(&mut one, &two), Err(Refusal::BadStore));
+}
+
+/// A number that is right in its lowest byte, or lowest two, is not cut to it.
+#[test]
+fn numbers_are_not_cut() {
+    let refused = u32::from(Refusal::BadArgument.number()) << 16;
+    let (table, places) = (
+        table_of_three().words(),
+        ring::built(&[1, 2], 1, 0).unwrap(),
+    );
+    let image = store::fresh(1).unwrap();
+    for more in [0, 1 << 8, 1 << 16, 1 << 31] {
+        let reported = raw::peers_reported(2, more + 1, 0, 0, &mut table.clone());
+        let built = raw::ring_build(&[1, 2], more + 1, 0, &mut [0; 2]);
+        let home = raw::owners(&places, &table, 0, more, 1, &mut [0]);
+        let counted = raw::owners(&places, &table, 0, 0, more + 1, &mut [0]);
+        let replica = raw::write_repl(b"k", b"v", more, 1, 0, 1, &mut [0; 23]);
+        let err = raw::write_err(more + 5, &mut [0; 9]);
+        let offered = raw::store_offer(&mut image.clone(), b"k", b"v", more, 1, 0, 1);
+        let told = [reported, built, home, counted, replica, err, offered];
+        match more {
+            0 => assert_eq!(told, [0, 2, 0, 0, 23, 9, 0]),
+            _ => assert_eq!(told, [refused; 7], "{more} more"),
+        }
+    }
 }
 
 #[test]

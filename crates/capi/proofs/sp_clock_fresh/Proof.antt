@@ -5,7 +5,7 @@ use lib.ListN.{drop}
 use Rattle.clock.specs.declared.Clock.{Clock}
 use Rattle.clock.specs.Clock.{freshClock}
 use Rattle.capi.specs.Words.{clockWords}
-use Rattle.capi.proofs.Fronts.{front-no-room, front-put}
+use Rattle.capi_words.proofs.Fronts.{front-no-room, front-put}
 use Rattle.capi.proofs.sp_clock_fresh.Statement.{statement}
 use Rattle.capi.proofs.sp_clock_fresh.Tie as tie
 
@@ -14,7 +14,9 @@ refused-requires c κs = search needs
 
 returns : tie.Need-returns
 returns c =
-    let p = front-no-room 0 (clockWords (freshClock (c .before .before .before .args .node))) (c .before .before .before .args .clock .now) _ refl (c .before .if1 .taken) (c .refused .ensures) in
+    let tested = c .before in
+    let a = tested .before .before .args in
+    let p = front-no-room 0 (clockWords (freshClock (a .node))) (a .clock .now) _ refl (tested .if1 .taken) (c .refused .ensures) in
     (p .told, p .left)
 
 fresh-requires : tie.Need-fresh-requires
@@ -28,7 +30,12 @@ same-length c = search needs
 
 returns-2 : tie.Need-returns-2
 returns-2 c =
-    let p = front-put 0 (clockWords (freshClock (c .before .before .before .before .before .before .before .args .node))) (c .before .before .before .before .before .before .before .args .clock .now) 0 _ refl (c .before .before .before .before .before .if1 .left) refl (c .before .before .put-clock .ensures ∙ ap (λ (d : Clock). clockWords d ++ drop 4 (c .before .before .before .before .before .before .before .args .clock .now)) (c .before .before .before .fresh .ensures)) in
+    let put = c .before .before in
+    let made = put .before in
+    let tested = made .before .before in
+    let a = tested .before .before .args in
+    let p = front-put 0 (clockWords (freshClock (a .node))) (a .clock .now) 0 _ refl (tested .if1 .left) refl
+    (put .put-clock .ensures ∙ ap (λ (d : Clock). clockWords d ++ drop 4 (a .clock .now)) (made .fresh .ensures)) in
     (p .told, p .left)
 
 pub sp-clock-fresh-spec : {M : Type 1} → statement M

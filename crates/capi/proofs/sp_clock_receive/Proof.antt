@@ -18,7 +18,12 @@ same-length : tie.Need-same-length
 same-length c = search needs
 
 returns : tie.Need-returns
-returns c = step-no-clock (λ (x : Clock). receiveStep x (c .before .before .before .before .before .args .phys) (c .before .before .before .before .before .args .logical) (c .before .before .before .before .before .args .time)) (c .before .before .before .before .before .args .clock .now) _ (sym (c .before .before .is-clock .ensures) ∙ not-true _ (c .before .if1 .taken)) (c .refused .ensures)
+returns c =
+    let tested = c .before in
+    let asked = tested .before in
+    let a = asked .before .before .before .args in
+    let no-clock = sym (asked .is-clock .ensures) ∙ not-true _ (tested .if1 .taken) in
+    step-no-clock (λ (x : Clock). receiveStep x (a .phys) (a .logical) (a .time)) (a .clock .now) _ no-clock (c .refused .ensures)
 
 clock-of-requires : tie.Need-clock-of-requires
 clock-of-requires c κs = sym (c .before .before .is-clock .ensures) ∙ not-false _ (c .before .if1 .left)
@@ -27,7 +32,11 @@ receive-requires : tie.Need-receive-requires
 receive-requires c κs = search needs
 
 put-clock-requires : tie.Need-put-clock-requires
-put-clock-requires c κs = let p = clock-parts _ (sym (c .before .before .before .before .before .is-clock .ensures) ∙ not-false _ (c .before .before .before .before .if1 .left)) in omega arith
+put-clock-requires c κs =
+    let tested = c .before .before .before .before in
+    let asked = tested .before in
+    let p = clock-parts _ (sym (asked .is-clock .ensures) ∙ not-false _ (tested .if1 .left)) in
+    omega arith
 
 received-requires : tie.Need-received-requires
 received-requires c κs = search needs
@@ -36,7 +45,28 @@ same-length-2 : tie.Need-same-length-2
 same-length-2 c = search needs
 
 returns-2 : tie.Need-returns-2
-returns-2 c = step-clock (λ (x : Clock). receiveStep x (c .before .before .before .before .before .before .before .before .before .before .before .before .args .phys) (c .before .before .before .before .before .before .before .before .before .before .before .before .args .logical) (c .before .before .before .before .before .before .before .before .before .before .before .before .args .time)) (c .before .before .before .before .before .before .before .before .before .before .before .before .args .clock .now) _ _ _ _ _ (sym (c .before .before .before .before .before .before .before .before .before .is-clock .ensures) ∙ not-false _ (c .before .before .before .before .before .before .before .before .if1 .left)) (c .before .before .before .before .before .before .clock-of .ensures) (c .before .before .before .before .before .receive .ensures .clock-is) (c .before .before .before .before .before .receive .ensures .answer-is) (c .received .ensures) (c .before .before .before .put-clock .ensures)
+returns-2 c =
+    let put = c .before .before .before in
+    let step = put .before .before in
+    let read = step .before in
+    let tested = read .before .before in
+    let asked = tested .before in
+    let a = asked .before .before .before .args in
+    let is-clock = sym (asked .is-clock .ensures) ∙ not-false _ (tested .if1 .left) in
+    step-clock (λ (x : Clock). receiveStep x (a .phys) (a .logical) (a .time)) (a .clock .now) _ _ _ _ _ is-clock (read .clock-of .ensures)
+    (step .receive .ensures .clock-is) (step .receive .ensures .answer-is) (c .received .ensures) (put .put-clock .ensures)
 
 pub sp-clock-receive-spec : {M : Type 1} → statement M
-sp-clock-receive-spec = tie.close (tie.spec is-clock-requires refused-requires same-length returns clock-of-requires receive-requires put-clock-requires received-requires same-length-2 returns-2)
+sp-clock-receive-spec =
+    tie.close
+    (tie.spec
+    is-clock-requires
+    refused-requires
+    same-length
+    returns
+    clock-of-requires
+    receive-requires
+    put-clock-requires
+    received-requires
+    same-length-2
+    returns-2)

@@ -19,7 +19,12 @@ same-length : tie.Need-same-length
 same-length c = search needs
 
 returns : tie.Need-returns
-returns c = step-no-clock (λ (x : Clock). sendStep x (c .before .before .before .before .before .args .time)) (c .before .before .before .before .before .args .clock .now) _ (sym (c .before .before .is-clock .ensures) ∙ not-true _ (c .before .if1 .taken)) (c .refused .ensures)
+returns c =
+    let tested = c .before in
+    let asked = tested .before in
+    let a = asked .before .before .before .args in
+    let no-clock = sym (asked .is-clock .ensures) ∙ not-true _ (tested .if1 .taken) in
+    step-no-clock (λ (x : Clock). sendStep x (a .time)) (a .clock .now) _ no-clock (c .refused .ensures)
 
 clock-of-requires : tie.Need-clock-of-requires
 clock-of-requires c κs = sym (c .before .before .is-clock .ensures) ∙ not-false _ (c .before .if1 .left)
@@ -28,7 +33,11 @@ send-requires : tie.Need-send-requires
 send-requires c κs = search needs
 
 put-clock-requires : tie.Need-put-clock-requires
-put-clock-requires c κs = let p = clock-parts _ (sym (c .before .before .before .before .before .is-clock .ensures) ∙ not-false _ (c .before .before .before .before .if1 .left)) in omega arith
+put-clock-requires c κs =
+    let tested = c .before .before .before .before in
+    let asked = tested .before in
+    let p = clock-parts _ (sym (asked .is-clock .ensures) ∙ not-false _ (tested .if1 .left)) in
+    omega arith
 
 sent-requires : tie.Need-sent-requires
 sent-requires c κs = search needs
@@ -37,7 +46,29 @@ same-length-2 : tie.Need-same-length-2
 same-length-2 c = search needs
 
 returns-2 : tie.Need-returns-2
-returns-2 c = step-clock (λ (x : Clock). sendStep x (c .before .before .before .before .before .before .before .before .before .before .before .before .args .time)) (c .before .before .before .before .before .before .before .before .before .before .before .before .args .clock .now) _ _ _ _ _ (sym (c .before .before .before .before .before .before .before .before .before .is-clock .ensures) ∙ not-false _ (c .before .before .before .before .before .before .before .before .if1 .left)) (c .before .before .before .before .before .before .clock-of .ensures) (c .before .before .before .before .before .send .ensures .clock-is) (ap sendRefusal (c .before .before .before .before .before .send .ensures .answer-is) ∙ given-refusal (sendStep (c .before .before .before .before .before .before .clock-of .result) (c .before .before .before .before .before .before .before .before .before .before .before .before .args .time))) (c .sent .ensures) (c .before .before .before .put-clock .ensures)
+returns-2 c =
+    let put = c .before .before .before in
+    let step = put .before .before in
+    let read = step .before in
+    let tested = read .before .before in
+    let asked = tested .before in
+    let a = asked .before .before .before .args in
+    let is-clock = sym (asked .is-clock .ensures) ∙ not-false _ (tested .if1 .left) in
+    let refusal = ap sendRefusal (step .send .ensures .answer-is) ∙ given-refusal (sendStep (read .clock-of .result) (a .time)) in
+    step-clock (λ (x : Clock). sendStep x (a .time)) (a .clock .now) _ _ _ _ _ is-clock (read .clock-of .ensures)
+    (step .send .ensures .clock-is) refusal (c .sent .ensures) (put .put-clock .ensures)
 
 pub sp-clock-send-spec : {M : Type 1} → statement M
-sp-clock-send-spec = tie.close (tie.spec is-clock-requires refused-requires same-length returns clock-of-requires send-requires put-clock-requires sent-requires same-length-2 returns-2)
+sp-clock-send-spec =
+    tie.close
+    (tie.spec
+    is-clock-requires
+    refused-requires
+    same-length
+    returns
+    clock-of-requires
+    send-requires
+    put-clock-requires
+    sent-requires
+    same-length-2
+    returns-2)

@@ -18,7 +18,12 @@ same-length : tie.Need-same-length
 same-length c = search needs
 
 returns : tie.Need-returns
-returns c = let a = c .before .before .before .before .before .before .before .before .args in handle-no-clock (a .store .now) (a .clock .now) (a .time) (a .frame .now) (a .reply .now) _ (sym (c .before .before .is-clock .ensures) ∙ not-true _ (c .before .if1 .taken)) (c .refused .ensures)
+returns c =
+    let tested = c .before in
+    let asked = tested .before in
+    let a = asked .before .before .before .before .before .before .args in
+    let no-clock = sym (asked .is-clock .ensures) ∙ not-true _ (tested .if1 .taken) in
+    handle-no-clock (a .store .now) (a .clock .now) (a .time) (a .frame .now) (a .reply .now) _ no-clock (c .refused .ensures)
 
 clock-of-requires : tie.Need-clock-of-requires
 clock-of-requires c κs = (sym (c .before .before .before .is-clock .ensures) ∙ not-false _ (c .before .before .if1 .left))
@@ -27,10 +32,19 @@ handle-requires : tie.Need-handle-requires
 handle-requires c κs = search needs
 
 put-clock-requires : tie.Need-put-clock-requires
-put-clock-requires c κs = let p = clock-parts _ (sym (c .before .before .before .before .before .before .before .before .before .before .before .before .is-clock .ensures) ∙ not-false _ (c .before .before .before .before .before .before .before .before .before .before .before .if1 .left)) in omega arith
+put-clock-requires c κs =
+    let tested = c .before .before .before .before .before .before .before .before .before .before .before in
+    let asked = tested .before in
+    let p = clock-parts _ (sym (asked .is-clock .ensures) ∙ not-false _ (tested .if1 .left)) in
+    omega arith
 
 replied-requires : tie.Need-replied-requires
-replied-requires c κs = let a = c .before .before .before .before .before .before .before .before .before .before .before .before .before .before .before .before .before .before .before .before .before .args in omega (arith, c .before .before .before .before .before .before .before .before .before .handle .ensures .written-is, reply-at-most-600 (a .store .now) (c .before .before .before .before .before .before .before .before .before .before .before .clock-of .result) (a .time) (a .frame .now) (a .reply .now))
+replied-requires c κs =
+    let served = c .before .before .before .before .before .before .before .before .before in
+    let read = served .before .before in
+    let a = read .before .before .before .before .before .before .before .before .before .before .args in
+    let short = reply-at-most-600 (a .store .now) (read .clock-of .result) (a .time) (a .frame .now) (a .reply .now) in
+    omega (arith, served .handle .ensures .written-is, short)
 
 same-length-2 : tie.Need-same-length-2
 same-length-2 c = search needs
@@ -42,7 +56,16 @@ same-length-4 : tie.Need-same-length-4
 same-length-4 c = search needs
 
 returns-2 : tie.Need-returns-2
-returns-2 c = let a = c .before .before .before .before .before .before .before .before .before .before .before .before .before .before .before .before .before .before .before .before .before .before .args in handle-clock (a .store .now) (a .clock .now) (a .time) (a .frame .now) (a .reply .now) _ (c .before .before .before .before .before .before .before .before .before .before .before .before .clock-of .result) (c .before .before .before .before .before .before .before .before .before .before .handle .result) _ _ _ (sym (c .before .before .before .before .before .before .before .before .before .before .before .before .before .before .before .before .is-clock .ensures) ∙ not-false _ (c .before .before .before .before .before .before .before .before .before .before .before .before .before .before .before .if1 .left)) (c .before .before .before .before .before .before .before .before .before .before .before .before .clock-of .ensures) (c .before .before .before .before .before .before .before .before .before .before .handle .ensures) (c .before .before .before .put-clock .ensures) (c .replied .ensures)
+returns-2 c =
+    let put = c .before .before .before in
+    let served = put .before .before .before .before .before .before .before in
+    let read = served .before .before in
+    let tested = read .before .before .before in
+    let asked = tested .before in
+    let a = asked .before .before .before .before .before .before .args in
+    let is-clock = sym (asked .is-clock .ensures) ∙ not-false _ (tested .if1 .left) in
+    handle-clock (a .store .now) (a .clock .now) (a .time) (a .frame .now) (a .reply .now) _ (read .clock-of .result) (served .handle .result) _ _ _
+    is-clock (read .clock-of .ensures) (served .handle .ensures) (put .put-clock .ensures) (c .replied .ensures)
 
 pub sp-handle-spec : {M : Type 1} → statement M
 sp-handle-spec =

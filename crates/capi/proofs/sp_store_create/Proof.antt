@@ -1,7 +1,7 @@
 use borrow.Author.Needs.{needs}
 use mathlib.Core.Path.{ap, _∙_}
 use Prim.Native.Nat.{ℕ}
-use Rattle.capi.specs.Result.{packed}
+use Rattle.capi_words.specs.Result.{packed}
 use Rattle.capi.proofs.sp_store_create.Statement.{statement}
 use Rattle.capi.proofs.sp_store_create.Tie as tie
 

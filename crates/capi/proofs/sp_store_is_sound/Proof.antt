@@ -1,6 +1,6 @@
 use borrow.Author.Needs.{needs}
 use mathlib.Core.Path.{ap, _∙_}
-use Rattle.capi.specs.Result.{flag}
+use Rattle.capi_words.specs.Result.{flag}
 use Rattle.capi.proofs.sp_store_is_sound.Statement.{statement}
 use Rattle.capi.proofs.sp_store_is_sound.Tie as tie
 

@@ -1,13 +1,13 @@
 use borrow.Author.Needs.{needs}
 use native.Mathlib.Omega.{arith}
 use mathlib.Core.Path.{_≡_, refl, ap, _∙_}
-use mathlib.Core.List.{List, _++_}
+use mathlib.Core.List.{List}
 use Prim.Native.Nat.{ℕ}
-use lib.ListN.{length, drop}
-use Rattle.store.specs.Lookup.{Finding, findingOf, lookupAnswer}
-use Rattle.capi.specs.Result.{packed}
+use Rattle.frame.specs.Writing.{afterWrite}
+use Rattle.store.specs.Lookup.{Finding, lookupAnswer}
+use Rattle.capi_words.specs.Result.{packed}
 use Rattle.capi.specs.Store.{lookRefusal, lookNumber, placeWords}
-use Rattle.capi.proofs.Fronts.{not-none, none, front-refused-by, front-no-room, front-put}
+use Rattle.capi_words.proofs.Fronts.{not-none, none, front-refused-by, front-no-room, front-put, front-room}
 use Rattle.capi.proofs.Stores.{two-words, look-refused, look-found}
 use Rattle.capi.proofs.sp_store_lookup.Statement.{statement}
 use Rattle.capi.proofs.sp_store_lookup.Tie as tie
@@ -39,8 +39,9 @@ returns-2 c =
     let a = first .before .before .before .before .before .before .args in
     let found = lookupAnswer (a .store .now) (a .key .now) in
     let l = two-words found in
+    let z = none (lookRefusal found) _ (refusal-is (first .before)) (first .if1 .left) in
     look-refused (a .store .now) (a .key .now) (a .place .now) _ _
-    (front-no-room (lookRefusal found) (placeWords found) (a .place .now) _ (none (lookRefusal found) _ (refusal-is (first .before)) (first .if1 .left)) (omega arith) (c .refused .ensures))
+    (front-no-room (lookRefusal found) (placeWords found) (a .place .now) _ z (omega arith) (c .refused .ensures))
     (λ z. omega (arith, c .refused .ensures))
 
 place-of-requires : tie.Need-place-of-requires
@@ -50,9 +51,7 @@ slice-aggregate-put-front : tie.Need-slice-aggregate-put-front
 slice-aggregate-put-front c = search needs
 
 put-front-requires : tie.Need-put-front-requires
-put-front-requires c κs =
-    let placed = c .before .before in
-    omega (arith, ap length (placed .place-of .ensures), two-words (findingOf (placed .before .before .before .before .lookup .result)))
+put-front-requires c κs = search needs
 
 found-requires : tie.Need-found-requires
 found-requires c κs = search needs
@@ -69,9 +68,11 @@ returns-3 c =
     let a = looked .before .before .before .before .args in
     let found = lookupAnswer (a .store .now) (a .key .now) in
     let l = two-words found in
+    let z = none (lookRefusal found) _ (refusal-is (first .before)) (first .if1 .left) in
     look-found (a .store .now) (a .key .now) (a .place .now) _ _
-    (front-put (lookRefusal found) (placeWords found) (a .place .now) 0 _ (none (lookRefusal found) _ (refusal-is (first .before)) (first .if1 .left)) (omega arith) refl
-    (put .put-front .ensures ∙ ap (λ (x : List ℕ). x ++ drop (length x) (a .place .now)) (placed .place-of .ensures ∙ ap placeWords (looked .lookup .ensures))))
+    (front-put (lookRefusal found) (placeWords found) (a .place .now) 0 _ z (omega arith) refl
+    (put .put-front .ensures .1 ∙ ap (λ (x : List ℕ). afterWrite 0 x (a .place .now)) (placed .place-of .ensures ∙ ap placeWords (looked .lookup .ensures))
+    ∙ front-room (placeWords found) (a .place .now) (omega arith)))
     (c .found .ensures ∙ ap lookNumber (looked .lookup .ensures))
 
 pub sp-store-lookup-spec : {M : Type 1} → statement M

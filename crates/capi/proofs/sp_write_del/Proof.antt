@@ -8,13 +8,19 @@ write-del-requires : tie.Need-write-del-requires
 write-del-requires c κs = search needs
 
 wrote-requires : tie.Need-wrote-requires
-wrote-requires c κs = wrote-small (del (c .before .before .before .before .before .before .args .key .now)) (c .before .before .before .before .before .before .args .out .now) _ _ (c .before .before .write-del .ensures)
+wrote-requires c κs =
+    let write = c .before .before in
+    let a = write .before .before .before .before .args in
+    wrote-small (del (a .key .now)) (a .out .now) _ _ (write .write-del .ensures)
 
 same-length : tie.Need-same-length
 same-length c = search needs
 
 returns : tie.Need-returns
-returns c = wrote-told (del (c .before .before .before .before .before .before .before .args .key .now)) (c .before .before .before .before .before .before .before .args .out .now) _ _ (c .before .before .before .write-del .ensures) _ (c .wrote .ensures)
+returns c =
+    let write = c .before .before .before in
+    let a = write .before .before .before .before .args in
+    wrote-told (del (a .key .now)) (a .out .now) _ _ (write .write-del .ensures) _ (c .wrote .ensures)
 
 pub sp-write-del-spec : {M : Type 1} → statement M
 sp-write-del-spec = tie.close (tie.spec write-del-requires wrote-requires same-length returns)

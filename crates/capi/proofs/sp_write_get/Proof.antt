@@ -8,13 +8,19 @@ write-get-requires : tie.Need-write-get-requires
 write-get-requires c κs = search needs
 
 wrote-requires : tie.Need-wrote-requires
-wrote-requires c κs = wrote-small (get (c .before .before .before .before .before .before .args .key .now)) (c .before .before .before .before .before .before .args .out .now) _ _ (c .before .before .write-get .ensures)
+wrote-requires c κs =
+    let write = c .before .before in
+    let a = write .before .before .before .before .args in
+    wrote-small (get (a .key .now)) (a .out .now) _ _ (write .write-get .ensures)
 
 same-length : tie.Need-same-length
 same-length c = search needs
 
 returns : tie.Need-returns
-returns c = wrote-told (get (c .before .before .before .before .before .before .before .args .key .now)) (c .before .before .before .before .before .before .before .args .out .now) _ _ (c .before .before .before .write-get .ensures) _ (c .wrote .ensures)
+returns c =
+    let write = c .before .before .before in
+    let a = write .before .before .before .before .args in
+    wrote-told (get (a .key .now)) (a .out .now) _ _ (write .write-get .ensures) _ (c .wrote .ensures)
 
 pub sp-write-get-spec : {M : Type 1} → statement M
 sp-write-get-spec = tie.close (tie.spec write-get-requires wrote-requires same-length returns)

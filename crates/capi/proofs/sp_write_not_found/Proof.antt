@@ -14,7 +14,10 @@ same-length : tie.Need-same-length
 same-length c = search needs
 
 returns : tie.Need-returns
-returns c = wrote-told notFound (c .before .before .before .before .before .before .args .out .now) _ _ (c .before .before .before .write-not-found .ensures) _ (c .wrote .ensures)
+returns c =
+    let write = c .before .before .before in
+    let a = write .before .before .before .args in
+    wrote-told notFound (a .out .now) _ _ (write .write-not-found .ensures) _ (c .wrote .ensures)
 
 pub sp-write-not-found-spec : {M : Type 1} → statement M
 sp-write-not-found-spec = tie.close (tie.spec write-not-found-requires wrote-requires same-length returns)

@@ -8,13 +8,19 @@ write-put-requires : tie.Need-write-put-requires
 write-put-requires c κs = search needs
 
 wrote-requires : tie.Need-wrote-requires
-wrote-requires c κs = wrote-small (put (c .before .before .before .before .before .before .before .args .key .now) (c .before .before .before .before .before .before .before .args .value .now)) (c .before .before .before .before .before .before .before .args .out .now) _ _ (c .before .before .write-put .ensures)
+wrote-requires c κs =
+    let write = c .before .before in
+    let a = write .before .before .before .before .before .args in
+    wrote-small (put (a .key .now) (a .value .now)) (a .out .now) _ _ (write .write-put .ensures)
 
 same-length : tie.Need-same-length
 same-length c = search needs
 
 returns : tie.Need-returns
-returns c = wrote-told (put (c .before .before .before .before .before .before .before .before .args .key .now) (c .before .before .before .before .before .before .before .before .args .value .now)) (c .before .before .before .before .before .before .before .before .args .out .now) _ _ (c .before .before .before .write-put .ensures) _ (c .wrote .ensures)
+returns c =
+    let write = c .before .before .before in
+    let a = write .before .before .before .before .before .args in
+    wrote-told (put (a .key .now) (a .value .now)) (a .out .now) _ _ (write .write-put .ensures) _ (c .wrote .ensures)
 
 pub sp-write-put-spec : {M : Type 1} → statement M
 sp-write-put-spec = tie.close (tie.spec write-put-requires wrote-requires same-length returns)

@@ -8,13 +8,19 @@ write-value-requires : tie.Need-write-value-requires
 write-value-requires c κs = search needs
 
 wrote-requires : tie.Need-wrote-requires
-wrote-requires c κs = wrote-small (value (c .before .before .before .before .before .before .args .value .now)) (c .before .before .before .before .before .before .args .out .now) _ _ (c .before .before .write-value .ensures)
+wrote-requires c κs =
+    let write = c .before .before in
+    let a = write .before .before .before .before .args in
+    wrote-small (value (a .value .now)) (a .out .now) _ _ (write .write-value .ensures)
 
 same-length : tie.Need-same-length
 same-length c = search needs
 
 returns : tie.Need-returns
-returns c = wrote-told (value (c .before .before .before .before .before .before .before .args .value .now)) (c .before .before .before .before .before .before .before .args .out .now) _ _ (c .before .before .before .write-value .ensures) _ (c .wrote .ensures)
+returns c =
+    let write = c .before .before .before in
+    let a = write .before .before .before .before .args in
+    wrote-told (value (a .value .now)) (a .out .now) _ _ (write .write-value .ensures) _ (c .wrote .ensures)
 
 pub sp-write-value-spec : {M : Type 1} → statement M
 sp-write-value-spec = tie.close (tie.spec write-value-requires wrote-requires same-length returns)

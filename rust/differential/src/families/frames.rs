@@ -1,7 +1,7 @@
 //! The frame reader and the writers.
 
 use super::message::{any_frame, damaged, framed, odd_frame, reply, request};
-use crate::make::{any_key, any_time, any_value, flag, logical, near, words};
+use crate::make::{any_key, any_time, any_value, flag, logical, near, wide, words};
 use crate::run::{cases, Run, Tally};
 use crate::same;
 use reference::frame::sealed;
@@ -61,7 +61,8 @@ fn every_flip(run: &mut Run, rng: &mut Rng) {
 fn write(run: &mut Run, rng: &mut Rng) {
     let (key, value) = (any_key(rng), any_value(rng));
     let (flag, phys, logical, node) = (flag(rng), any_time(rng), logical(rng), rng.byte());
-    let number = if rng.one_in(4) { 0 } else { rng.byte() };
+    let number = if rng.one_in(4) { 0 } else { rng.byte().into() };
+    let number = wide(rng, number);
     let mut out = |length: usize| {
         let length = near(rng, length.min(600));
         rng.bytes(length)

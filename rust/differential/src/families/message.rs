@@ -80,7 +80,7 @@ pub fn odd_body(rng: &mut Rng, kind: u8) -> Vec<u8> {
         body.extend(key);
     }
     if kind == 4 {
-        body.push(flag(rng));
+        body.push(flag(rng) as u8);
         body.extend(time_bytes(rng.below(TIME_END)));
         body.extend(rng.bytes(3));
     }

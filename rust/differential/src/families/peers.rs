@@ -1,7 +1,7 @@
 //! Peer events on tables that are sound and tables that are not.
 
 use super::table::{any, id, time, WORDS};
-use crate::make::{any_time, near, number32, pick, words};
+use crate::make::{any_time, near, number32, pick, wide, words};
 use crate::run::{cases, Run, Tally};
 use crate::same;
 use support::Rng;
@@ -69,6 +69,7 @@ fn event(run: &mut Run, rng: &mut Rng, table: &mut Vec<u64>) {
         }
         2 | 3 => {
             let state = pick(rng, &[0, 0, 1, 1, 2, 2, 3, 255]);
+            let state = wide(rng, state);
             same!(run, peers_reported, table, |t| (
                 id,
                 state,

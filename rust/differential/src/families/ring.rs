@@ -1,7 +1,7 @@
 //! Tokens, key positions, ring building and owner walks.
 
 use super::table;
-use crate::make::{any_key, near, number32, pick, words};
+use crate::make::{any_key, near, number32, pick, wide, words};
 use crate::run::{cases, Run, Tally};
 use crate::same;
 use reference::ring::place;
@@ -57,8 +57,9 @@ fn build(run: &mut Run, rng: &mut Rng, table: &[u64]) -> Vec<u64> {
     let ids = ids(rng, table);
     let vnodes = pick(rng, &[0, 1, 2, 3, 5, 8, 16, 63, 64, 64, 65, 255]);
     let salt = number32(rng);
-    let length = near(rng, ids.len() * usize::from(vnodes));
+    let length = near(rng, ids.len() * vnodes as usize);
     let mut ring = words(rng, length);
+    let vnodes = wide(rng, vnodes);
     let result = same!(run, ring_build, &mut ring, |r| (&ids, vnodes, salt, r));
     if result >> 16 == 0 {
         ring.truncate(result as usize);
@@ -114,8 +115,9 @@ fn walk(run: &mut Run, rng: &mut Rng, ring: &[u64], table: &[u64]) {
     };
     let admission = pick(rng, &[0, 0, 0, 1, 1, 1, 1, 2, 255]);
     let count = pick(rng, &[0, 1, 1, 2, 2, 3, 3, 3, 4, 255]);
-    let length = near(rng, usize::from(count).min(4));
+    let length = near(rng, (count as usize).min(4));
     let mut out = rng.bytes(length);
+    let (admission, count) = (wide(rng, admission), wide(rng, count));
     same!(run, owners, &mut out, |o| (
         ring, table, position, admission, count, o
     ));

@@ -1,5 +1,5 @@
-//! Histories of offers and merges over several stores, and calls on damaged
-//! images.
+//! Histories of offers, merges, lookups and listings over several stores, and
+//! calls on damaged images.
 
 use super::image::{self, damage, empty, filled, slots, small_stamp};
 use crate::make::{
@@ -46,7 +46,7 @@ fn create(run: &mut Run, rng: &mut Rng) -> Vec<u8> {
 /// An entry that is right, mostly with a small stamp.
 fn offer_good(run: &mut Run, rng: &mut Rng, store: &mut Vec<u8>) {
     let key = pool_key(rng);
-    let flag = u8::from(rng.one_in(4));
+    let flag = u32::from(rng.one_in(4));
     let value = if flag == 1 { vec![] } else { good_value(rng) };
     let Stamp {
         phys,
@@ -79,11 +79,23 @@ fn lookup(run: &mut Run, rng: &mut Rng, store: &[u8]) {
     same!(run, store_lookup, &mut lent, |l| (&l.0, &key, &mut l.1));
 }
 
+/// An entry by its number, about as many as there are.
+fn entry(run: &mut Run, rng: &mut Rng, store: &[u8]) {
+    let i = match rng.below(10) {
+        0 => pick(rng, &[100, 101, 65_535, 65_536, 1 << 32, usize::MAX]),
+        1 => rng.index(101),
+        _ => rng.index(6),
+    };
+    let length = near(rng, 10);
+    let mut lent = (store.to_vec(), words(rng, length));
+    same!(run, store_entry, &mut lent, |l| (&l.0, i, &mut l.1));
+}
+
 fn history(run: &mut Run, rng: &mut Rng) {
     let mut stores: Vec<Vec<u8>> = (0..3).map(|_| create(run, rng)).collect();
     for _ in 0..40 {
         let at = rng.index(stores.len());
-        match rng.below(10) {
+        match rng.below(12) {
             0 => offer_any(run, rng, &mut stores[at]),
             1 | 2 => {
                 let giver = stores[rng.index(3)].clone();
@@ -91,6 +103,7 @@ fn history(run: &mut Run, rng: &mut Rng) {
                 stores[at] = merge(run, receiver, giver);
             }
             3 | 4 => lookup(run, rng, &stores[at]),
+            5 | 6 => entry(run, rng, &stores[at]),
             _ => offer_good(run, rng, &mut stores[at]),
         }
     }
@@ -116,6 +129,7 @@ fn damaged(run: &mut Run, rng: &mut Rng) {
     same!(run, store_is_sound, &mut store, |s| (s));
     for _ in 0..4 {
         lookup(run, rng, &store);
+        entry(run, rng, &store);
     }
     merge(run, whole.clone(), store.clone());
     merge(run, store.clone(), store.clone());

@@ -32,44 +32,55 @@ fn print_checksums() {
     }
 }
 
+/// With the clock that is handed back.
 fn send_at_p() -> String {
     let clock = Clock {
         phys: 1000,
         logical: u16::MAX,
         ..Clock::fresh(1)
     };
-    match clock.send(clock.phys) {
-        Ok(_) => "a stamp".to_string(),
-        Err(refusal) => refused(refusal),
-    }
+    let (answer, after) = match clock.send(clock.phys) {
+        Ok(after) => ("a stamp".to_string(), after),
+        Err(refusal) => (refused(refusal), clock),
+    };
+    let Clock {
+        phys,
+        logical,
+        node,
+        skew,
+    } = after;
+    format!("{answer}, clock {phys} {logical} {node} {skew}")
 }
 
 fn print_frames() {
-    let mut out = [0; 11];
-    println!("get k1: {}", wrote(frame::write_get(&mut out, b"k1")));
-    println!("{}", hex(&out));
-    let mut out = [0; 8];
-    println!("not found: {}", wrote(frame::write_not_found(&mut out)));
-    println!("{}", hex(&out));
+    let mut out = [0; frame::FRAME_MAX];
+    let answer = frame::write_get(&mut out, b"k1");
+    println!("get k1: {}\n{}", wrote(answer, &out), hex(&out[..11]));
+    let mut out = [0; frame::FRAME_MAX];
+    let answer = frame::write_not_found(&mut out);
+    println!("not found: {}\n{}", wrote(answer, &out), hex(&out[..8]));
 }
 
 fn print_limits() {
-    let mut out = [0; frame::FRAME_MAX];
     for length in [512, 513] {
+        let mut out = [0; frame::FRAME_MAX];
         let answer = frame::write_value(&mut out, &vec![b'v'; length]);
-        println!("value of {length}: {}", wrote(answer));
+        println!("value of {length}: {}", wrote(answer, &out));
     }
     for length in [64, 65] {
+        let mut out = [0; frame::FRAME_MAX];
         let answer = frame::write_get(&mut out, &vec![b'k'; length]);
-        println!("key of {length}: {}", wrote(answer));
+        println!("key of {length}: {}", wrote(answer, &out));
     }
 }
 
-fn wrote(answer: Result<usize, Refusal>) -> String {
-    match answer {
+/// What a writer answered, and the checksum of the whole buffer.
+fn wrote(answer: Result<usize, Refusal>, out: &[u8]) -> String {
+    let answer = match answer {
         Ok(length) => format!("{length} bytes"),
         Err(refusal) => refused(refusal),
-    }
+    };
+    format!("{answer}, buffer {:08x}", checksum::crc32c(out))
 }
 
 fn refused(refusal: Refusal) -> String {

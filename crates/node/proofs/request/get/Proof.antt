@@ -1,7 +1,7 @@
 use borrow.Author.Needs.{needs}
 use native.Mathlib.Omega.{arith}
 use mathlib.Core.Path.{_≡_, refl, _∙_}
-use Prim.Native.Nat.{_+_, _-_, _≤_}
+use Prim.Native.Nat.{ℕ, _+_, _-_, _≤_}
 use lib.ListN.{length, take, drop}
 use Rattle.wire.proofs.Fields.{field-between}
 use Rattle.store.specs.Lookup.{valuePart}
@@ -11,9 +11,16 @@ use Rattle.node.proofs.Serving.{looked-as, value-at, value-fits}
 use Rattle.node.proofs.request.get.Statement.{statement}
 use Rattle.node.proofs.request.get.Tie as tie
 
+-- where the store says that the value stands, and how long it is
+abbrev place : tie.After-looked → ℕ
+place c = c .looked .given .0 .0
+
+abbrev long : tie.After-looked → ℕ
+long c = c .looked .given .0 .1 .0
+
 -- the value's place lies in the store
 within : (c : tie.After-looked) → let a = c .before .before .before .before .before .before .args in
-    c .looked .given .0 .0 + c .looked .given .0 .1 .0 ≤ length (a .store .now)
+    place c + long c ≤ length (a .store .now)
 within c =
     let looked = c .before .before in
     let start = looked .before .before .before .before in
@@ -21,12 +28,12 @@ within c =
 
 -- and the value stands there
 value-is : (c : tie.After-looked) → let a = c .before .before .before .before .before .before .args in
-    take (c .looked .given .0 .0 + c .looked .given .0 .1 .0 - c .looked .given .0 .0) (drop (c .looked .given .0 .0) (a .store .now)) ≡ valuePart (a .store .now) (a .key .now)
+    take (place c + long c - place c) (drop (place c) (a .store .now)) ≡ valuePart (a .store .now) (a .key .now)
 value-is c =
     let looked = c .before .before in
     let start = looked .before .before .before .before in
     let s = start .args .store .now in
-    field-between (c .looked .given .0 .0) (c .looked .given .0 .1 .0) _ s refl
+    field-between (place c) (long c) _ s refl
     ∙ value-at s (start .pre .is-sound) (start .args .key .now) _ _ _ (looked .lookup-unchecked .ensures) (c .looked .given .1) .1
 
 lookup-unchecked-requires : tie.Need-lookup-unchecked-requires

@@ -4,7 +4,7 @@ use mathlib.Core.List.{_++_}
 use Prim.Native.Nat.{ℕ, _≤_, _-_}
 use native.Mathlib.Omega.{arith}
 use lib.ListN.{length, take, drop, length-set}
-use Rattle.ring.proofs.Meeting.{front-step}
+use Rattle.wire.proofs.Fill.{copy-step}
 use Rattle.ring.proofs.walking.put.Statement.{statement}
 use Rattle.ring.proofs.walking.put.Tie as tie
 
@@ -36,7 +36,7 @@ loop-again c =
     let a = c .before .before .before .args in (
       search needs,
       rw length-set (l .inv .1),
-      front-step (a .t .nodes) (a .out .now) _ (l .i) (omega arith) (omega arith) (l .inv .2),
+      rw (l .inv .2) (copy-step (a .t .nodes) (a .out .now) (l .i) (omega arith) (omega arith)),
     )
 
 same-length : tie.Need-same-length Inv-loop μ-loop

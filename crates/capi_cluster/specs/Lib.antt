@@ -1,0 +1,4 @@
+pub mod Words
+pub mod Peers
+pub mod Ring
+pub mod Meaning
