@@ -2,11 +2,11 @@
  *
  * Link with libsnowpulley.a. It is for x86-64 Linux, the one target of the toolchain, and needs
  * memcpy, memmove and memset. It has no heap and no data of its own that changes. A call takes up
- * to 18 KiB of stack: a checksum makes its table of 16 KiB there, so every call that takes a
- * checksum takes 12 KiB or more. The calls of the clock and of the peer table, sp_owners,
- * sp_fmix32, sp_ring_is_sound and sp_store_create take less than 2 KiB. This is measured, not
- * proved (docs/PERFORMANCE.md). A port to another processor rests on a back end of the toolchain
- * for it.
+ * to 18 KiB of stack (sp_explain 33 KiB): a checksum makes its table of 16 KiB there, so every
+ * call that takes a checksum takes 12 KiB or more. The calls of the clock and of the peer table,
+ * sp_owners, sp_fmix32, sp_ring_is_sound and sp_store_create take less than 2 KiB. This is
+ * measured, not proved (docs/PERFORMANCE.md). A port to another processor rests on a back end of
+ * the toolchain for it.
  *
  * Every function may be given any numbers and any bytes: it ends with an answer or a numbered
  * refusal, and a refusal changes nothing that was lent, except that sp_handle writes an ERR frame
@@ -59,7 +59,9 @@ typedef uint32_t sp_result;
 #define SP_SELF 15           /* an event about the own id, other than adding it */
 #define SP_BAD_RING 16       /* a ring that is not sound */
 #define SP_BAD_ARGUMENT 17   /* a number out of its range, an id twice, a tombstone with a value,
-                              * or words that are no clock or no sound table */
+                              * words that are no clock or no sound table, or a list of
+                              * deliveries that is not readable */
+#define SP_CONFLICT 30       /* two deliveries of a key that have equal stamps and differ */
 
 /* The name of a refusal's number, as "BAD_KEY": for SP_REFUSAL(r), or the number of an ERR frame.
  * "none" for 0, and "unknown" for a number that this header does not have. */
@@ -83,6 +85,7 @@ static inline const char *sp_refusal_name(uint32_t number) {
     case SP_SELF: return "SELF";
     case SP_BAD_RING: return "BAD_RING";
     case SP_BAD_ARGUMENT: return "BAD_ARGUMENT";
+    case SP_CONFLICT: return "CONFLICT";
     default: return "unknown";
     }
 }
@@ -101,6 +104,7 @@ static inline const char *sp_refusal_name(uint32_t number) {
 #define SP_VNODES_MAX 64  /* vnodes of each id of a ring, at least 1 */
 #define SP_RING_MAX 640   /* places of a ring: words */
 #define SP_OWNERS_MAX 3   /* owners of a position, at least 1 */
+#define SP_DELIVERIES_MAX 1000 /* deliveries of a list */
 #define SP_TIME_END UINT64_C(281474976710656) /* 2^48: the first time that is out of range */
 
 /* ---- Checksums ------------------------------------------------------------------------- */
@@ -394,6 +398,52 @@ sp_result sp_store_merge(uint8_t *receiver, size_t receiver_len, const uint8_t *
 sp_result sp_handle(uint8_t *store, size_t store_len, uint64_t *clock, size_t clock_len,
                     uint64_t now, const uint8_t *frame, size_t frame_len, uint8_t *reply,
                     size_t reply_len);
+
+/* ---- The report ------------------------------------------------------------------------ */
+
+/* Which delivery of a key is in force, and why not the others. A list of deliveries is REPL
+ * frames, one right after the other, in the order in which they came. It is readable if it has no
+ * more than SP_DELIVERIES_MAX frames, sp_frame_read reads each of them, each is a REPL, and no
+ * byte is left over; so the empty list is readable. The place of a delivery is its number in the
+ * list, counted from 0. */
+
+/* The answer is the number of deliveries in the list, 0 to SP_DELIVERIES_MAX.
+ *   SP_BAD_ARGUMENT     the list is not readable */
+sp_result sp_deliveries(const uint8_t *list, size_t list_len);
+
+/* What sp_explain answers: a refusal in bits 32 to 47 (0: none), and in bits 0 to 31 the winner's
+ * place or the two places of SP_CONFLICT. Bits that none of these takes are 0. SP_IS_REFUSED,
+ * SP_REFUSAL and SP_ANSWER are for an sp_result, and not for this. */
+typedef uint64_t sp_explained;
+#define SP_EXPLAINED_IS_REFUSED(r) (SP_EXPLAINED_REFUSAL(r) != 0)
+#define SP_EXPLAINED_REFUSAL(r) ((uint32_t)((r) >> 32))
+#define SP_EXPLAINED_WINNER(r) ((uint32_t)(r) & 0xFFFFu)  /* without a refusal: bits 0 to 15 */
+#define SP_EXPLAINED_EARLIER(r) ((uint32_t)(r) & 0xFFFFu) /* of SP_CONFLICT: bits 0 to 15 */
+#define SP_EXPLAINED_LATER(r) ((uint32_t)(r) >> 16)       /* of SP_CONFLICT: bits 16 to 31 */
+#define SP_NO_DELIVERY 65535 /* the winner's place where no delivery is of the key */
+
+/* The bytes that it writes, one for each delivery. The first is the winner's, and the last that of
+ * every delivery of another key, so of all where there is no winner. The others say why a delivery
+ * of the key lost: by the first field in which its stamp and the winner's differ, or as the same
+ * entry. */
+#define SP_WON 0
+#define SP_EARLIER_TIME 1 /* a lower phys */
+#define SP_LOWER_COUNT 2  /* the same phys, a lower logical */
+#define SP_LOWER_NODE 3   /* the same phys and logical, a lower node */
+#define SP_SAME_ENTRY 4   /* the winner's own entry, again */
+#define SP_OTHER_KEY 5    /* a delivery of another key */
+
+/* Names the winner among the deliveries of a key, and writes to `reasons` why each other one lost.
+ * The winner is the delivery with the greatest stamp, the first one if it came again: the entry
+ * that a new store holds after the key's deliveries were offered to it in their order. Of
+ * SP_CONFLICT the two places are those of the pair whose later place is the lowest, and of several
+ * such pairs of the one whose earlier place is the lowest.
+ *   SP_BAD_ARGUMENT     the list is not readable
+ *   SP_BAD_KEY          the key is not acceptable
+ *   SP_CONFLICT         two deliveries of the key have equal stamps, and differ in flag or value
+ *   SP_NO_ROOM          `reasons` has fewer bytes than the list has deliveries */
+sp_explained sp_explain(const uint8_t *list, size_t list_len, const uint8_t *key, size_t key_len,
+                        uint8_t *reasons, size_t reasons_len);
 
 #ifdef __cplusplus
 }

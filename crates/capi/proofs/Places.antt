@@ -4,8 +4,8 @@ use mathlib.Core.Bool.{true}
 use mathlib.Core.List.{List}
 use mathlib.Core.Option.{some, Option·some-injective}
 use Prim.Native.Nat.{ℕ}
-use native.Mathlib.Omega.{arith}
 use Rattle.wire.specs.Fill.{field}
+use Rattle.wire.proofs.Tests.{never}
 use Rattle.entry.specs.Entry.{Entry, entryOf}
 use Rattle.image.specs.Image.{entriesOf, sound}
 use Rattle.image.proofs.Compared.{distinct}
@@ -77,7 +77,7 @@ value-in s (Err n) = refl
 part-in : (i : ℕ) (f : Message → List ℕ) (s : List ℕ) (m : Message) → ((l : Located) → partAt i (fieldWords l) s ≡ f (messageIn s l))
     → (r : Read) → meaning s r ≡ message m → partAt i (readWords r) s ≡ f m
 part-in i f s m law (read.Message l) h = let e : messageIn s l ≡ m = cc in law l ∙ ap f e
-part-in i f s m law (read.Refused r) h = let z : _≡_ {A = ℕ} 0 1 = cc in absurd (omega arith)
+part-in i f s m law (read.Refused r) h = never (cc)
 
 pub field-places : FieldPlaces
 unfolding readFrame

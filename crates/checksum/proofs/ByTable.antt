@@ -17,7 +17,8 @@ use Rattle.wire.specs.Number.{Bytes}
 use Rattle.checksum.specs.Meaning.{RunWithTable, CrcWithTable}
 use Rattle.checksum.proofs.Xor.{xor-assoc}
 use Rattle.checksum.proofs.Linear.{steps-shifted, bytesSteps-xor, bytesSteps-split, byteStep-table, run-word, run-append}
-use Rattle.checksum.proofs.Words.{bytes-take, bytes-drop, take-lt, sixteen-bytes}
+use Rattle.wire.proofs.Fields.{bytes-drop}
+use Rattle.checksum.proofs.Words.{bytes-take, take-lt, sixteen-bytes}
 use Rattle.checksum.proofs.Rows.{table-rule}
 use Rattle.checksum.proofs.Bounds.{run-bound}
 

@@ -6,14 +6,11 @@ use native.Mathlib.Nat.{pow-suc}
 use native.Mathlib.Omega.{arith}
 use lib.ListN.{length, getD, take, drop}
 use lib.Dec.{lit<}
-use lib.Seq.{getD-drop, length-take-le}
+use lib.Seq.{length-take-le}
 use Rattle.checksum.specs.Table.{littleEndian}
 use Rattle.wire.specs.Number.{Bytes}
 
 -- parts of a list of bytes
-pub bytes-drop : (n : ℕ) (s : List ℕ) → Bytes s → Bytes (drop n s)
-bytes-drop n s b k = rw getD-drop (b (n + k))
-
 pub bytes-take : (n : ℕ) (s : List ℕ) → Bytes s → Bytes (take n s)
 bytes-take zero s b k = lit< tt
 bytes-take (suc n) [] b k = lit< tt

@@ -6,7 +6,7 @@ use Prim.Native.Nat.{ℕ, _+_, _≤_, _<_, _^_, max}
 use native.Mathlib.Omega.{arith}
 use lib.Dec.{ltb, leb}
 use borrow.Author.Tests.{ltb-true, ltb-false, leb-false}
-use Rattle.wire.proofs.Tests.{test, clash}
+use Rattle.wire.proofs.Tests.{test, clash, never}
 use Rattle.entry.proofs.Order.{stamp-order-by-field}
 use Rattle.clock.specs.declared.Clock.{Clock}
 use Rattle.clock.specs.Clock.{next, refused, stampOf, raise, withSkew, sendStep, receiveInRange, receiveStep}
@@ -14,7 +14,7 @@ use Rattle.clock.specs.Meaning.{Rises, SendRises, ReceiveRises}
 
 -- a refusal is no next clock
 absurd-step : {A : Type 0} {n : ℕ} {d : Clock} → refused n ≡ next d → A
-absurd-step {n = n} {d} e = let z : _≡_ {A = ℕ} 0 1 = cc in absurd (omega arith)
+absurd-step {n = n} {d} e = never (cc)
 
 next-is : {c d : Clock} → next c ≡ next d → c ≡ d
 next-is e = cc

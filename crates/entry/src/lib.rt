@@ -41,6 +41,7 @@ pub enum Refusal {
     OwnPeer,
     BadRing,
     BadArgument,
+    Conflict,
 }
 
 impl Refusal {
@@ -65,6 +66,7 @@ impl Refusal {
             Refusal::OwnPeer => 15,
             Refusal::BadRing => 16,
             Refusal::BadArgument => 17,
+            Refusal::Conflict => 30,
         }
     }
 }

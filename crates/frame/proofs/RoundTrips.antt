@@ -12,7 +12,7 @@ use borrow.Author.Tests.{le-ltb, lt-leb, ltb-false, eqb-true}
 use Rattle.wire.specs.Number.{be, Bytes}
 use Rattle.wire.specs.Fill.{field}
 use Rattle.wire.proofs.Fill.{length-field}
-use Rattle.wire.proofs.Tests.{test}
+use Rattle.wire.proofs.Tests.{test, never}
 use Rattle.entry.specs.declared.Refusal.{Refusal}
 use Rattle.entry.specs.Refusal.{number}
 use Rattle.entry.specs.declared.Refusal.the-variants.{BadKey, ValueTooLarge, BadFrame}
@@ -22,13 +22,13 @@ use Rattle.frame.specs.declared.answer.Read.{Read}
 use Rattle.frame.specs.declared.answer.Read.the-variants.{Message as Said, Refused}
 use Rattle.frame.specs.declared.answer.Wrote.{Wrote}
 use Rattle.frame.specs.declared.answer.Wrote.the-variants.{Bytes as BytesWrote, Refused as RefusedWrote}
-use Rattle.frame.specs.Message.{Message, timeFault, keyFault, valueFault, argumentFault, messageRefusal, InRange}
+use Rattle.frame.specs.Message.{Message, repl, timeFault, keyFault, valueFault, argumentFault, messageRefusal, InRange}
 use Rattle.frame.specs.Layout.{counted, stampBytes, typeOf, body, envelope, frameOf}
 use Rattle.frame.specs.Reading.{message, refused, messageIn, meaning, numberAt, envelopeHolds, typeIn, klen, vlen, stampIn, endsAt, keyEnds, valueEnds}
 use Rattle.frame.specs.Reading.{judgedAs, checked, readBody, readAnswer, readFrame}
 use Rattle.frame.specs.Writing.{bytes, answerOf, writeRefusal, writeAnswer, afterWrite, Writes}
 use Rattle.frame.specs.Meaning.{Within, ReadLiesWithin, ReadHasType, ReadRefusals, WrittenReadsBack, ReadWritesBack, ReadIsTaken, FrameAtMost600}
-use Rattle.frame.specs.Meaning.{WrittenWhole, FrontReadsBack}
+use Rattle.frame.specs.Meaning.{UncheckedReadsRepl, UncheckedLiesWithin, WrittenWhole, FrontReadsBack}
 use Rattle.frame.proofs.Fields.{field-join, number-lt, be-number}
 use Rattle.frame.proofs.Envelopes.{length-envelope, framed, envelope-reads, envelope-writes}
 use Rattle.frame.proofs.Bodies.{taken, body-short, body-reads}
@@ -75,7 +75,7 @@ cases s w l = elim (test w) [
 -- the message of an answer
 module _ (s : List ℕ) (m : Message) where
   no-message : {A : Type 0} (r : Refusal) → meaning s (Refused r) ≡ message m → A
-  no-message r h = let z : _≡_ {A = ℕ} 0 1 = cc in absurd (omega arith)
+  no-message r h = never (cc)
 
   said : (w : Bool) (l : Located) → meaning s (checked s w l) ≡ message m → Clean s w l × (messageIn s l ≡ m)
   said w l h = elim (cases s w l) [
@@ -115,7 +115,7 @@ read-has-type s m h = type-by-type s m (typeIn s) (read-body s m h)
 
 module _ (s : List ℕ) (m : Located) where
   not-said : {A : Type 0} (r : Refusal) → Refused r ≡ Said m → A
-  not-said r h = let z : _≡_ {A = ℕ} 0 1 = cc in absurd (omega arith)
+  not-said r h = never (cc)
 
   -- its parts lie within the frame
   lies : (w : Bool) (l : Located) → (w ≡ true → Within s l) → checked s w l ≡ Said m → Within s m
@@ -144,6 +144,18 @@ read-lies-within s m h = elim (test (envelopeHolds s)) [
   | inl p ↦ lies-by-type s m (typeIn s) (rw p at h)
   | inr p ↦ not-said s m BadFrame (rw p at h)
 ]
+
+-- ---- the reader that does not test the envelope
+-- the message of a REPL frame was read from an envelope that holds, of TYPE 4
+pub read-envelope : (s : List ℕ) (m : Message) → readFrame s ≡ message m → envelopeHolds s ≡ true
+read-envelope = read-holds
+
+pub unchecked-reads-repl : UncheckedReadsRepl
+unfolding readAnswer typeOf
+unchecked-reads-repl s e h = rw (read-holds s (repl e) h, ← read-has-type s (repl e) h) refl
+
+pub unchecked-lies-within : UncheckedLiesWithin
+unchecked-lies-within s m = lies-by-type s m 4
 
 -- ---- a refusal
 abbrev IsFew : Read → Type 0
@@ -175,7 +187,7 @@ few-read s = either IsFew (envelopeHolds s) _ _
     (omega arith)
 
 few-of : (s : List ℕ) (r : Read) (n : ℕ) → IsFew r → meaning s r ≡ refused n → (1 ≤ n) × (n ≤ 3)
-few-of s (Said m) n f h = let z : _≡_ {A = ℕ} 0 1 = cc in absurd (omega arith)
+few-of s (Said m) n f h = never (cc)
 few-of s (Refused r) n f h = let e : number r ≡ n = cc in rw (← e) f
 
 pub read-refusals : ReadRefusals
@@ -318,10 +330,10 @@ counted-bytes m out n after w =
     let a = w .answer in
     elim (test (eqb (messageRefusal m) 0)) [
       | inl p ↦ elim (test (ltb (length out) (length (frameOf m)))) [
-        | inl q ↦ let z : _≡_ {A = ℕ} 0 1 = cc (rw (p, q) at a) in absurd (omega arith)
+        | inl q ↦ never (cc (rw (p, q) at a))
         | inr q ↦ (eqb-true _ 0 p, ltb-false (length out) (length (frameOf m)) q)
       ]
-      | inr p ↦ let z : _≡_ {A = ℕ} 0 1 = cc (rw (p, p) at a) in absurd (omega arith)
+      | inr p ↦ never (cc (rw (p, p) at a))
     ]
 
 pub front-reads-back : FrontReadsBack

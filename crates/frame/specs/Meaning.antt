@@ -9,9 +9,10 @@ use Rattle.frame.specs.declared.answer.Message.the-variants.{Put, Get, D
 use Rattle.frame.specs.declared.answer.Read.the-variants.{Message as Said}
 use Rattle.frame.specs.declared.answer.Wrote.{Wrote}
 use Rattle.frame.specs.declared.answer.Wrote.the-variants.{Bytes as BytesWrote}
-use Rattle.frame.specs.Message.{Message, messageRefusal, InRange}
+use Rattle.entry.specs.Entry.{Entry}
+use Rattle.frame.specs.Message.{Message, repl, messageRefusal, InRange}
 use Rattle.frame.specs.Layout.{maxFrame, typeOf, frameOf}
-use Rattle.frame.specs.Reading.{message, refused, typeIn, readAnswer, readFrame}
+use Rattle.frame.specs.Reading.{message, refused, typeIn, readBody, readAnswer, readFrame}
 use Rattle.frame.specs.Writing.{Writes}
 
 -- ---- reading
@@ -29,6 +30,14 @@ Within s (Err n) = Unit {0}
 -- so do those of every message that the reader answers
 abbrev pub ReadLiesWithin : Type 0
 ReadLiesWithin = (s : List ℕ) (m : Located) → readAnswer s ≡ Said m → Within s m
+
+-- of a REPL frame that reads, the reader that does not test the envelope answers the same (R198)
+abbrev pub UncheckedReadsRepl : Type 0
+UncheckedReadsRepl = (s : List ℕ) (e : Entry) → readFrame s ≡ message (repl e) → readBody 4 s ≡ readAnswer s
+
+-- and what it answers lies within the bytes, whatever they are (R198)
+abbrev pub UncheckedLiesWithin : Type 0
+UncheckedLiesWithin = (s : List ℕ) (m : Located) → readBody 4 s ≡ Said m → Within s m
 
 -- a frame reads as a message of its TYPE
 abbrev pub ReadHasType : Type 0

@@ -98,14 +98,14 @@ judgedAs badKey tooLarge m =
     (cond tooLarge (Refused ValueTooLarge)
     (Said m))
 
--- a message in a frame whose envelope holds, by whether it uses up the body exactly (R37, R65, R66)
+-- a message in a frame whose envelope is not looked at, by whether it uses up the body exactly (R37, R65, R66)
 unfoldable pub checked : List ℕ → Bool → Located → Read
 checked s usedUp m =
     cond (not usedUp) (Refused BadFrame)
     (cond (argumentFault (messageIn s m)) (Refused BadFrame)
     (judgedAs (keyFault (messageIn s m)) (valueFault (messageIn s m)) m))
 
--- a frame whose envelope holds, by its TYPE (R53 to R64)
+-- a frame of the TYPE t, whose envelope is not looked at (R53 to R64)
 unfoldable pub readBody : ℕ → List ℕ → Read
 readBody t s =
     cond (eqb t 1) (checked s (valueEnds (klen s + 5) s) (Put 5 (klen s) (klen s + 7) (vlen (klen s + 5) s)))

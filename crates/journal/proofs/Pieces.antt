@@ -9,17 +9,13 @@ use lib.ListN.{length, take, drop, length-append, length-drop}
 use lib.Seq.{take-append-le, drop-append-le}
 use lib.Dec.{ltb, eqb}
 use borrow.Author.Tests.{ltb-true, ltb-false, le-ltb, eqb-true, ne-eqb}
-use Rattle.wire.proofs.Tests.{cases, or-false}
+use Rattle.wire.proofs.Tests.{cases, or-false, never}
 use Rattle.wire.specs.Fill.{field}
 use Rattle.wire.specs.Number.{num}
 use Rattle.frame.specs.Layout.{maxLen}
 use Rattle.journal.specs.Journal.{Piece, whole, noRecord, maxRecord, timeIn, lenIn, pieceOf}
 use Rattle.journal.specs.Meaning.{MoreBytesKeep, BegunIsShort}
 use Rattle.journal.proofs.Cutting.{cut-whole}
-
--- two different constructors are never equal
-pub never : {A : Type 0} → _≡_ {A = ℕ} 0 1 → A
-never z = absurd (omega arith)
 
 module _ (s : List ℕ) where
   -- LEN can be read and is out of range

@@ -1,11 +1,10 @@
 -- What a served request did.
 use Prim.Native.Nat.{ℕ, _^_, _<_}
-use native.Mathlib.Omega.{arith}
 use mathlib.Core.Path.{_≡_, refl}
 use mathlib.Core.Logic.{_⊎_, inl, inr}
 use mathlib.Core.Bool.{false}
 use mathlib.Core.List.{List, []}
-use Rattle.wire.proofs.Tests.{test}
+use Rattle.wire.proofs.Tests.{test, never}
 use Rattle.entry.specs.Entry.{Entry, entryOf}
 use Rattle.clock.specs.declared.Clock.{Clock}
 use Rattle.clock.specs.Clock.{Stepped, stampOf, sendStep, receiveStep}
@@ -24,7 +23,7 @@ use Rattle.store.specs.Lookup as lookup
 use Rattle.node.specs.Handler.{Served, done, refused, offerServed, offered, writeLocally, takeReplica, gets, serve}
 
 pub no-done : {A : Type 0} (n : ℕ) (s : List ℕ) (d : Clock) (m : Message) → refused n ≡ done s d m → A
-no-done n s d m e = let z : _≡_ {A = ℕ} 0 1 = cc in absurd (omega arith)
+no-done n s d m e = never (cc)
 
 -- ---- an entry that was offered and not refused
 pub record Took (s : List ℕ) (e : Entry) (s′ : List ℕ) : Type 0 where

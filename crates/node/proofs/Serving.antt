@@ -11,7 +11,7 @@ use lib.Dec.{eqb}
 use types.Run.{OneOf}
 use denote.Enum.Declared.{tagOf}
 use Rattle.wire.specs.Fill.{field}
-use Rattle.wire.proofs.Tests.{test}
+use Rattle.wire.proofs.Tests.{test, never}
 use Rattle.entry.specs.declared.Stamp.{Stamp}
 use Rattle.entry.specs.Key.{badKey}
 use Rattle.entry.specs.Refusal.{number}
@@ -55,16 +55,16 @@ module _ (s : List ℕ) (c n : Clock) where
     pub overtook : (t : Stepped) → stamp st ≡ given t → r ≡ true → refused 7 ≡ writeLocally s k v f t
     unfolding writeLocally
     overtook (clock.next d) g b = let q : st ≡ stampOf d = cc in rw (← q, told true b)
-    overtook (clock.refused j) g b = let z : _≡_ {A = ℕ} 0 1 = cc in absurd (omega arith)
+    overtook (clock.refused j) g b = never (cc)
 
     pub sent : (t : Stepped) → stamp st ≡ given t → n ≡ clockAfter c t → r ≡ false → offered s n (entryOf k v f st) ≡ writeLocally s k v f t
     unfolding writeLocally
     sent (clock.next d) g m b = let q : st ≡ stampOf d = cc in rw (← q, told false b) (ap (λ (a : Clock). offered s a (entryOf k v f st)) m)
-    sent (clock.refused j) g m b = let z : _≡_ {A = ℕ} 0 1 = cc in absurd (omega arith)
+    sent (clock.refused j) g m b = never (cc)
 
   pub not-sent : (k v : List ℕ) (f : ℕ) (t : Stepped) (j : ℕ) → refusal j ≡ given t → refused j ≡ writeLocally s k v f t
   unfolding writeLocally
-  not-sent k v f (clock.next d) j g = let z : _≡_ {A = ℕ} 0 1 = cc in absurd (omega arith)
+  not-sent k v f (clock.next d) j g = never (cc)
   not-sent k v f (clock.refused i) j g = let q : j ≡ i = cc in ap refused q
 
   -- a receive that was taken

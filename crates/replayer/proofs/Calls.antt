@@ -7,10 +7,10 @@ use native.Mathlib.Omega.{arith}
 use lib.ListN.{length, drop}
 use lib.Dec.{leb}
 use borrow.Author.Tests.{leb-true, le-leb}
-use Rattle.wire.proofs.Tests.{and-true}
+use Rattle.wire.proofs.Tests.{and-true, never}
 use Rattle.frame.specs.Layout.{maxFrame}
 use Rattle.journal.specs.Journal.{noRecord, pieceOf}
-use Rattle.journal.proofs.Pieces.{never, begun-is-short}
+use Rattle.journal.proofs.Pieces.{begun-is-short}
 use Rattle.replayer.specs.declared.Next.the-variants.{Read, Write}
 use Rattle.replayer.specs.Replies.{Kept}
 use Rattle.replayer.specs.Advance.{Replay, answered, waiting, stopped, turn, isWrite, goesOn, advanceWithin, advanced}

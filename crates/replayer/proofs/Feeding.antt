@@ -6,10 +6,9 @@ use Prim.Native.Nat.{ℕ, _≤_, _<_}
 use native.Mathlib.Omega.{arith}
 use mathlib.Core.Logic.{_⊎_, inl, inr}
 use lib.ListN.{length, drop, length-append, length-drop}
-use Rattle.wire.proofs.Tests.{cases}
+use Rattle.wire.proofs.Tests.{cases, never}
 use Rattle.frame.specs.Layout.{maxFrame}
 use Rattle.journal.specs.Journal.{noRecord, pieceOf, journalOf}
-use Rattle.journal.proofs.Pieces.{never}
 use Rattle.replayer.specs.declared.Next.{Next}
 use Rattle.replayer.specs.declared.Next.the-variants.{Read, Write, Stop}
 use Rattle.replayer.specs.Replies.{Kept, start, repliesTo, lastReply, repliesFrom, replies}

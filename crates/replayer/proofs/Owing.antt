@@ -6,10 +6,9 @@ use Prim.Native.Nat.{ℕ, _+_, _≤_}
 use native.Mathlib.Omega.{arith}
 use lib.ListN.{length, drop}
 use lib.Seq.{drop-drop}
-use Rattle.wire.proofs.Tests.{cases, clash}
+use Rattle.wire.proofs.Tests.{cases, clash, never}
 use Rattle.journal.specs.Journal.{whole, noRecord, pieceOf, recordAt, following, journalOf}
 use Rattle.journal.proofs.Records.{journal-ends, whole-more, broken-more}
-use Rattle.journal.proofs.Pieces.{never}
 use Rattle.replayer.specs.declared.Next.{Next}
 use Rattle.replayer.specs.declared.Next.the-variants.{Read, Write, Stop}
 use Rattle.replayer.specs.Replies.{Kept, after, replyTo, repliesTo, lastReply}

@@ -2,7 +2,7 @@
 use mathlib.Core.Path.{_≡_, sym, ap}
 use mathlib.Core.List.{List}
 use Prim.Native.Nat.{ℕ}
-use native.Mathlib.Omega.{arith}
+use Rattle.wire.proofs.Tests.{never}
 use Rattle.ring.specs.Answer.{Answer, gives, refuses, written}
 
 -- an answer and the slice that goes with it
@@ -16,4 +16,4 @@ pub refused : {n m : ℕ} → refuses n ≡ refuses m → n ≡ m
 refused e = cc
 
 pub not-given : {A : Type 0} {n m : ℕ} → refuses n ≡ gives m → A
-not-given e = let z : _≡_ {A = ℕ} 0 1 = cc in absurd (omega arith)
+not-given e = never (cc)

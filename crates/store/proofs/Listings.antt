@@ -23,14 +23,14 @@ use Rattle.store.specs.Meaning.{Lists, EntryStands, EachListed}
 use Rattle.store.proofs.Looking.{slot-key, slot-value}
 
 -- ---- the i-th of some entries
-nth-there : (i : ℕ) (es : List Entry) (e : Entry) (rest : List Entry) → drop i es ≡ e ∷ rest → nth i es ≡ some e
+pub nth-there : (i : ℕ) (es : List Entry) (e : Entry) (rest : List Entry) → drop i es ≡ e ∷ rest → nth i es ≡ some e
 unfolding nth
 nth-there zero [] e rest h = cc
 nth-there zero (g ∷ es) e rest h = cc
 nth-there (suc i) [] e rest h = cc
 nth-there (suc i) (g ∷ es) e rest h = nth-there i es e rest h
 
-nth-within : (i : ℕ) (es : List Entry) (e : Entry) → nth i es ≡ some e → i < length es
+pub nth-within : (i : ℕ) (es : List Entry) (e : Entry) → nth i es ≡ some e → i < length es
 unfolding nth
 nth-within i [] e h = absurd (Option·none-ne-some e h)
 nth-within zero (g ∷ es) e h = omega arith

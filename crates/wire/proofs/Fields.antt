@@ -52,6 +52,9 @@ length-field-le : (at w : ℕ) (s : List ℕ) → length (field at w s) ≤ w
 unfolding field
 length-field-le at w s = omega (arith, length-take w (drop at s))
 
+pub bytes-drop : (n : ℕ) (s : List ℕ) → Bytes s → Bytes (drop n s)
+bytes-drop n s b i = rw getD-drop (b (n + i))
+
 pub bytes-field : (at w : ℕ) (s : List ℕ) → Bytes s → Bytes (field at w s)
 unfolding field
 bytes-field at w s h i = elim (test (ltb i w)) [

@@ -1,6 +1,8 @@
 //! Single calls.
 
-use crate::inputs::{key, peers, store, value, HELD, NEW, OLD, SALT};
+use crate::inputs::{
+    deliveries, different_deliveries, key, peers, store, value, DELIVERED, HELD, NEW, OLD, SALT,
+};
 use crate::measure::{by, medians, on_copies, steady, timer_cost, Subject, ROUNDS};
 use crate::table::{self, nanoseconds, Row};
 use reference::checksum::{crc32c_cpu, crc32c_table, crc32c_wide, Way};
@@ -8,8 +10,9 @@ use reference::clock::Clock;
 use reference::frame::{Message, FRAME_MAX};
 use reference::peers::Admission;
 use reference::ring::PLACES_MAX;
-use reference::{node, ring, store as reference_store};
+use reference::{explain, node, ring, store as reference_store};
 use samples::script::{framed, put_message, repl_message};
+use snowpulley::audit::DELIVERIES_MAX;
 use snowpulley::store::Found;
 use std::hint::black_box;
 
@@ -20,6 +23,7 @@ pub fn tables() -> String {
     let mut rows = handler_rows();
     rows.extend(store_rows());
     rows.extend(ring_rows());
+    rows.extend(explain_rows());
     let times = table::markdown("ns", &rows, |_, time| nanoseconds(time));
     format!(
         "Medians of {ROUNDS} rounds in which the subjects take short turns. A ratio is the proved\n\
@@ -261,4 +265,25 @@ fn owners_row() -> Row {
         proved: times[0],
         reference: [Some(times[1]), None, None],
     }
+}
+
+fn explain_rows() -> Vec<Row> {
+    let name = |what: &str| format!("explain, {DELIVERIES_MAX} deliveries, {what}");
+    vec![
+        explain_row(name("stamps differ"), &different_deliveries()),
+        explain_row(name("one entry"), &deliveries(|_| HELD)),
+    ]
+}
+
+fn explain_row(name: String, list: &[u8]) -> Row {
+    let (mut reasons, mut others) = ([0; DELIVERIES_MAX], [0; DELIVERIES_MAX]);
+    snowpulley::audit::explain(list, &DELIVERED, &mut reasons);
+    explain::explain(list, &DELIVERED, &mut others);
+    assert!(reasons == others, "{name}: the reasons differ");
+    let proved =
+        steady(move || snowpulley::audit::explain(black_box(list), &DELIVERED, &mut reasons));
+    row(name, proved, || {
+        let mut reasons = [0; DELIVERIES_MAX];
+        steady(move || explain::explain(black_box(list), &DELIVERED, &mut reasons))
+    })
 }

@@ -3,6 +3,8 @@
 use reference::peers::PeerTable;
 use reference::stamp::Stamp;
 use reference::store::{create, image_length, offer};
+use samples::script::{framed, repl_message};
+use snowpulley::audit::DELIVERIES_MAX;
 use support::Rng;
 
 pub const SLOTS: usize = 100;
@@ -13,7 +15,7 @@ pub const OLD: Stamp = at(500);
 pub const HELD: Stamp = at(1000);
 pub const NEW: Stamp = at(1500);
 
-const fn at(phys: u64) -> Stamp {
+pub const fn at(phys: u64) -> Stamp {
     Stamp {
         phys,
         logical: 0,
@@ -40,6 +42,22 @@ pub fn store(first: usize, used: usize, length: usize, stamp: Stamp) -> Vec<u8> 
         offer(&mut image, &key, &value(length), 0, stamp).expect("a right entry");
     }
     image
+}
+
+/// The key of all deliveries of a list.
+pub const DELIVERED: [u8; 64] = [b'k'; 64];
+
+/// The longest list: as many deliveries as are allowed, in frames of 597 bytes.
+/// `stamp` gives the stamp of the delivery at a place.
+pub fn deliveries(stamp: impl Fn(u64) -> Stamp) -> Vec<u8> {
+    let value = value(512);
+    let frame = |place| framed(&repl_message(&DELIVERED, stamp(place), Some(&value)));
+    (0..DELIVERIES_MAX as u64).flat_map(frame).collect()
+}
+
+/// The longest list with a stamp of its own for each delivery, in no order.
+pub fn different_deliveries() -> Vec<u8> {
+    deliveries(|place| at(place * 7 % DELIVERIES_MAX as u64))
 }
 
 /// Ten ids and a table with their rows, for both sides.

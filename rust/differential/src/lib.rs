@@ -21,7 +21,7 @@ pub struct Family {
     pub share: u64,
 }
 
-pub const FAMILIES: [Family; 7] = [
+pub const FAMILIES: [Family; 8] = [
     Family {
         name: "checksums",
         run: families::checksums::run,
@@ -56,5 +56,10 @@ pub const FAMILIES: [Family; 7] = [
         name: "handler",
         run: families::handler::run,
         share: 40,
+    },
+    Family {
+        name: "explain",
+        run: families::explain::run,
+        share: 200,
     },
 ];

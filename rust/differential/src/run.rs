@@ -45,30 +45,57 @@ impl<A: Lent, B: Lent, C: Lent> Lent for (A, B, C) {
     }
 }
 
-/// What a run has compared.
-#[derive(Debug, Default)]
-pub struct Tally {
-    /// The number of calls.
-    pub compared: u64,
-    /// How often each call was refused, by the refusal, and how often it gave
-    /// 0, 1 or 2, by the result.
-    pub met: BTreeMap<(&'static str, u32), u64>,
+/// What a call gives.
+pub trait Outcome: Copy + PartialEq {
+    /// The result that it is counted as, if it is: an answer, or a refusal in
+    /// the upper half.
+    fn counted_as(self) -> Option<u32>;
+
+    /// A text for a report.
+    fn shown(self) -> String;
 }
 
 fn is_refusal(number: u32) -> bool {
     u8::try_from(number).is_ok_and(|n| Refusal::from_number(n).is_some())
 }
 
-impl Tally {
-    fn add(&mut self, call: &'static str, result: u32) {
-        self.compared += 1;
+/// A result of the header, or another number.
+impl Outcome for u32 {
+    fn counted_as(self) -> Option<u32> {
         // Other results are counts, or no results with two halves.
-        let key = match (result >> 16, result & 0xFFFF) {
-            (0, 0..=2) => result,
-            (refusal, _) if is_refusal(refusal) => refusal << 16,
-            _ => return,
-        };
-        *self.met.entry((call, key)).or_default() += 1;
+        match (self >> 16, self & 0xFFFF) {
+            (0, 0..=2) => Some(self),
+            (refusal, _) if is_refusal(refusal) => Some(refusal << 16),
+            _ => None,
+        }
+    }
+
+    fn shown(self) -> String {
+        let (refusal, answer) = (self >> 16, self & 0xFFFF);
+        format!("{self:#010x} (as a result: refusal {refusal}, answer {answer})")
+    }
+}
+
+/// What a run has compared.
+#[derive(Debug, Default)]
+pub struct Tally {
+    /// The number of calls.
+    pub compared: u64,
+    /// How often each call was refused, by the refusal, and how often it gave
+    /// an answer that is counted, by the result; and what else a family counts.
+    pub met: BTreeMap<(&'static str, u32), u64>,
+}
+
+impl Tally {
+    fn add(&mut self, call: &'static str, outcome: impl Outcome) {
+        self.compared += 1;
+        if let Some(result) = outcome.counted_as() {
+            self.count(call, result);
+        }
+    }
+
+    fn count(&mut self, what: &'static str, number: u32) {
+        *self.met.entry((what, number)).or_default() += 1;
     }
 
     pub fn times(&self, call: &'static str, result: u32) -> u64 {
@@ -88,13 +115,13 @@ pub struct Run {
 impl Run {
     /// Makes the call on both sides, each on its own copy of what is lent.
     /// Panics where they differ; else `lent` is as the call left it.
-    pub fn same<B: Lent>(
+    pub fn same<B: Lent, R: Outcome>(
         &mut self,
         call: &'static str,
         lent: &mut B,
-        proved: impl FnOnce(&mut B) -> u32,
-        reference: impl FnOnce(&mut B) -> u32,
-    ) -> u32 {
+        proved: impl FnOnce(&mut B) -> R,
+        reference: impl FnOnce(&mut B) -> R,
+    ) -> R {
         let mut copy = lent.clone();
         let got = proved(&mut copy);
         let want = reference(lent);
@@ -106,7 +133,18 @@ impl Run {
         want
     }
 
-    fn stop(&self, call: &str, got: u32, want: u32, buffers: Option<String>) -> ! {
+    /// Counts something else than a result that a case has met.
+    pub fn count(&mut self, what: &'static str, number: u32) {
+        self.tally.count(what, number);
+    }
+
+    fn stop(
+        &self,
+        call: &str,
+        got: impl Outcome,
+        want: impl Outcome,
+        buffers: Option<String>,
+    ) -> ! {
         panic!(
             "family {}, seed {}, case {}, call {call}:\n\
              proved    {}\n\
@@ -115,16 +153,11 @@ impl Run {
             self.family,
             self.seed,
             self.case,
-            shown(got),
-            shown(want),
+            got.shown(),
+            want.shown(),
             buffers.unwrap_or("equal".to_string()),
         )
     }
-}
-
-fn shown(result: u32) -> String {
-    let (refusal, answer) = (result >> 16, result & 0xFFFF);
-    format!("{result:#010x} (as a result: refusal {refusal}, answer {answer})")
 }
 
 /// Runs so many cases. A case's numbers come from the seed and its own

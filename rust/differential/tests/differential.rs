@@ -98,6 +98,20 @@ fn handler() {
     run("handler", &reach);
 }
 
+/// The answers of `explain` are the winner's place (0) and NONE (1). A list
+/// of 1,001 frames is refused as any other that is not readable.
+#[test]
+fn explain() {
+    let reach: [Reach; 5] = [
+        ("deliveries", &[0, 1, 2], &[17]),
+        ("readable", &[0, 1, 2, 3, 20, 1000], &[]),
+        ("explain", &[0, 1], &[17, 1, 30, 4]),
+        ("reason", &[0, 1, 2, 3, 4, 5], &[]),
+        ("frames", &[1001], &[]),
+    ];
+    run("explain", &reach);
+}
+
 #[test]
 fn every_family_has_a_test() {
     let names = FAMILIES.map(|f| f.name);
@@ -109,6 +123,7 @@ fn every_family_has_a_test() {
         "ring",
         "store",
         "handler",
+        "explain",
     ];
     assert_eq!(names, tested);
 }

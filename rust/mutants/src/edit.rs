@@ -49,8 +49,13 @@ impl Edit {
                     new: rest.strip_prefix(' ').unwrap_or(rest).to_string(),
                 }),
                 Some(("expect", rest)) => edit.expect = rest.trim().to_string(),
+                // A text of several lines would lose all but its first.
+                _ if !line.trim().is_empty() => return Err(format!("no such line: {line}")),
                 _ => {}
             }
+        }
+        if edit.pairs.iter().any(|pair| pair.old == pair.new) {
+            return Err("a pair changes nothing".to_string());
         }
         if edit.pairs.is_empty() {
             return Err("it has no 'old:' and 'new:' pair".to_string());

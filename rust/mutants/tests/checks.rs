@@ -104,6 +104,9 @@ fn an_edit_changes_a_text_that_stands_once() {
     assert!(edit("u8", "u16", "low").apply(&mut files).is_err());
     assert!(edit("no such", "text", "low").apply(&mut files).is_err());
     assert!(Edit::read("a", "b", "file: src/lib.rt\nold: x\nnew: y\n").is_err());
+    let two_lines = "file: src/lib.rt\nold: x\n  more\nnew: y\nexpect: f\n";
+    assert!(Edit::read("a", "b", two_lines).is_err());
+    assert!(Edit::read("a", "b", "file: src/lib.rt\nold: x\nnew: x\nexpect: f\n").is_err());
 }
 
 #[test]

@@ -5,6 +5,9 @@
 
 pub mod checksum;
 pub mod clock;
+pub mod conflict;
+pub mod deliveries;
+pub mod explain;
 pub mod frame;
 pub mod key;
 pub mod node;

@@ -35,6 +35,7 @@ refusals! {
     SelfPeer = 15,
     BadRing = 16,
     BadArgument = 17,
+    Conflict = 30,
 }
 
 impl Refusal {

@@ -6,14 +6,14 @@ use reference::value;
 use reference::Refusal;
 
 #[test]
-fn refusals_are_numbered_from_1_on() {
-    for (i, &refusal) in Refusal::ALL.iter().enumerate() {
-        assert_eq!(usize::from(refusal.number()), i + 1);
-        assert_eq!(Refusal::from_number(refusal.number()), Some(refusal));
+fn the_numbers_of_the_refusals() {
+    let numbers: Vec<u8> = Refusal::ALL.iter().map(|r| r.number()).collect();
+    assert_eq!(numbers, (1..=17).chain([30]).collect::<Vec<u8>>());
+    for number in 0..=255 {
+        let refusal = Refusal::from_number(number);
+        assert_eq!(refusal.is_some(), numbers.contains(&number));
+        assert!(refusal.is_none_or(|r| r.number() == number));
     }
-    assert_eq!(Refusal::from_number(0), None);
-    let next = Refusal::ALL.len() as u8 + 1;
-    assert_eq!(Refusal::from_number(next), None);
 }
 
 #[test]

@@ -92,6 +92,20 @@ impl Args {
         self.optional_operand()?.ok_or_else(missing)
     }
 
+    /// The operands that are left: one for each of these names.
+    pub fn operands_named<const N: usize>(
+        self,
+        names: [&str; N],
+    ) -> Result<[OsString; N], Failure> {
+        let operands: Vec<OsString> = self.operands()?;
+        if let Some(name) = names.get(operands.len()) {
+            return Err(failure(format!("{name} is missing")));
+        }
+        operands
+            .try_into()
+            .map_err(|operands: Vec<OsString>| too_many(&operands[N]))
+    }
+
     /// Nothing may be left.
     pub fn finish(self) -> Result<(), Failure> {
         self.operands()?
@@ -182,5 +196,12 @@ mod tests {
         assert_eq!(operand(&["a", "b"]), "too many words: 'b'");
         assert_eq!(operand(&["--what"]), "no option '--what'");
         assert_eq!(args(&["-"]).operand("FILE"), Ok("-".into()));
+        let two = |words: &[&str]| args(words).operands_named(["LIST", "KEY"]);
+        assert_eq!(two(&["a"]).unwrap_err().message, "KEY is missing");
+        assert_eq!(
+            two(&["a", "b", "c"]).unwrap_err().message,
+            "too many words: 'c'"
+        );
+        assert_eq!(two(&["a", "--", "-b"]), Ok(["a".into(), "-b".into()]));
     }
 }

@@ -15,6 +15,15 @@ pub fn read(path: &OsStr) -> Result<Vec<u8>, Failure> {
     bytes.map_err(|error| named(path, &error))
 }
 
+/// What a report calls the file that was read.
+pub fn name(path: &OsStr) -> String {
+    if path == "-" {
+        "standard input".to_string()
+    } else {
+        path.display().to_string()
+    }
+}
+
 pub fn write(path: &OsStr, bytes: &[u8]) -> Result<(), Failure> {
     std::fs::write(path, bytes).map_err(|error| named(path, &error))
 }

@@ -89,6 +89,48 @@ fn the_replies_are_the_references() {
     }
 }
 
+/// A run that writes the deliveries of a journal, and what it writes.
+fn delivered(name: &str, journal: &[u8]) -> (Run, Vec<u8>) {
+    let path = temporary(name);
+    let option = format!("--deliveries={}", path.display());
+    let run = run_with(&["replay", "-", &option], journal);
+    (run, std::fs::read(path).unwrap())
+}
+
+#[test]
+fn the_deliveries_are_the_repl_frames_that_were_answered_ok() {
+    let (key, repl) = (b"lamp".to_vec(), |phys, logical, value| {
+        framed(&repl_message(b"lamp", stamp(phys, logical, 7), value))
+    });
+    let [first, second] = [repl(9, 8, Some(&b"off"[..])), repl(8, 8, None)];
+    let records = [
+        record(10, &framed(&put_message(b"lamp", b"on"))),
+        record(11, &first),
+        record(12, &repl(12, 65_535, None)),
+        record(13, &[0, 6, 99, 0, 1, 2, 3, 4]),
+        record(14, &framed(&Message::Get { key: key.clone() })),
+        record(15, &second),
+        record(16, &framed(&Message::Del { key })),
+    ];
+    let (run, list) = delivered("replay-delivered", &records.concat());
+    assert!(list == [first, second].concat());
+    let note = "deliveries written: 2; PUT and DEL that are not in the list: 2";
+    assert_eq!((run.status, run.lines().last()), (0, Some(&note)));
+    let audit = run_with(&["audit", "-", "lamp"], &list);
+    assert!(audit
+        .out
+        .starts_with("Delivery 0 is in force for \"lamp\": \"off\", "));
+}
+
+#[test]
+fn more_deliveries_than_an_audit_takes_are_told() {
+    let repl = framed(&repl_message(b"lamp", stamp(9, 8, 7), None));
+    let (run, list) = delivered("replay-many", &record(10, &repl).repeat(1001));
+    assert!(list == repl.repeat(1001));
+    let note = "deliveries written: 1001, more than the 1000 that an audit takes; ";
+    assert!(run.lines().last().unwrap().starts_with(note));
+}
+
 #[test]
 fn the_sample_has_a_line_for_each_record_and_a_summary() {
     let script = sample::script();

@@ -4,7 +4,9 @@ mod common;
 
 use common::{run, temporary};
 
-const COMMANDS: [&str; 6] = ["demo", "show", "replay", "owners", "ring", "refusal"];
+const COMMANDS: [&str; 7] = [
+    "demo", "show", "replay", "audit", "owners", "ring", "refusal",
+];
 
 #[test]
 fn the_help_lists_the_commands_and_statuses() {
@@ -25,6 +27,7 @@ fn every_command_has_help() {
         assert!(run(&["--help"]).out.contains(&format!("\n  {command} ")));
     }
     run(&["ring", "--help"]).says(0, "help-ring.txt");
+    run(&["audit", "--help"]).says(0, "help-audit.txt");
 }
 
 #[test]

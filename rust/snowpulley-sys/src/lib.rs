@@ -18,6 +18,7 @@ pub const SP_PEER_KNOWN: u16 = 14;
 pub const SP_SELF: u16 = 15;
 pub const SP_BAD_RING: u16 = 16;
 pub const SP_BAD_ARGUMENT: u16 = 17;
+pub const SP_CONFLICT: u16 = 30;
 
 pub const SP_KEY_MAX: usize = 64;
 pub const SP_VALUE_MAX: usize = 512;
@@ -27,6 +28,7 @@ pub const SP_PEERS_MAX: usize = 10;
 pub const SP_VNODES_MAX: u32 = 64;
 pub const SP_RING_MAX: usize = 640;
 pub const SP_OWNERS_MAX: u32 = 3;
+pub const SP_DELIVERIES_MAX: usize = 1000;
 pub const SP_TIME_END: u64 = 281474976710656;
 
 pub const SP_CLOCK_WORDS: usize = 4;
@@ -87,6 +89,15 @@ pub const SP_PLACE_LEN: usize = 1;
 pub const SP_OFFER_STORED: u16 = 0;
 pub const SP_OFFER_REPLACED: u16 = 1;
 pub const SP_OFFER_KEPT: u16 = 2;
+
+pub const SP_NO_DELIVERY: u16 = 65535;
+
+pub const SP_WON: u8 = 0;
+pub const SP_EARLIER_TIME: u8 = 1;
+pub const SP_LOWER_COUNT: u8 = 2;
+pub const SP_LOWER_NODE: u8 = 3;
+pub const SP_SAME_ENTRY: u8 = 4;
+pub const SP_OTHER_KEY: u8 = 5;
 
 extern "C" {
     pub fn sp_crc32c(bytes: *const u8, bytes_len: usize) -> u32;
@@ -247,4 +258,14 @@ extern "C" {
         reply: *mut u8,
         reply_len: usize,
     ) -> u32;
+
+    pub fn sp_deliveries(list: *const u8, list_len: usize) -> u32;
+    pub fn sp_explain(
+        list: *const u8,
+        list_len: usize,
+        key: *const u8,
+        key_len: usize,
+        reasons: *mut u8,
+        reasons_len: usize,
+    ) -> u64;
 }

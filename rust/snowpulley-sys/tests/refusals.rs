@@ -47,14 +47,21 @@ fn by_rules_name(table: Table) -> Table {
     table.into_iter().map(rename).collect()
 }
 
-/// The cases of the enum, numbered from 1 on.
-fn cases(code: &str) -> Table {
+/// The cases of the enum, in their order.
+fn cases(code: &str) -> Vec<String> {
     let lines = block(code, "pub enum Refusal {", "}");
     let cases = lines.iter().filter_map(|line| line.strip_suffix(','));
-    cases
-        .zip(1..)
-        .map(|(case, n)| (rules_name(case), n))
-        .collect()
+    cases.map(rules_name).collect()
+}
+
+fn names(table: &Table) -> Vec<String> {
+    table.iter().map(|(name, _)| name.clone()).collect()
+}
+
+/// Whether the numbers rise from 1 on; some may be left out.
+fn rises(table: &Table) -> bool {
+    let first = table.first().is_some_and(|(_, number)| *number == 1);
+    first && table.windows(2).all(|pair| pair[0].1 < pair[1].1)
 }
 
 /// What the code's `number` says of each case.
@@ -104,11 +111,13 @@ fn reference(model: &str) -> Table {
 fn one_name_and_one_number() {
     let (code, specs) = (code("entry"), text("crates/entry/specs/Refusal.antt"));
     let model = text("rust/reference/src/refusal.rs");
-    let right = cases(&code);
-    assert!(right.len() >= 17, "the enum has {} cases", right.len());
-    assert_eq!(numbers(&code), right, "the code's numbers");
+    let right = numbers(&code);
+    assert!(right.len() >= 18, "the code has {} numbers", right.len());
+    assert!(rises(&right), "{right:?}");
+    assert_eq!(cases(&code), names(&right), "the enum");
     assert_eq!(definition(&specs), right, "the definition");
-    assert_eq!(last_number(&specs), right.len() as u64, "lastNumber");
+    let last = right.last().map(|(_, number)| *number);
+    assert_eq!(Some(last_number(&specs)), last, "lastNumber");
     let header = header();
     assert_eq!(listed(&header), right, "the header");
     let named = right.iter().map(|(name, _)| (name.clone(), name.clone()));
@@ -117,22 +126,40 @@ fn one_name_and_one_number() {
     assert_eq!(reference(&model), right, "the second program");
 }
 
+#[test]
+fn numbers_rise() {
+    let table = |numbers: &[u64]| numbers.iter().map(|n| (n.to_string(), *n)).collect();
+    assert!(rises(&table(&[1, 2, 30])));
+    for wrong in [&[][..], &[2, 3], &[1, 1], &[1, 3, 2]] {
+        assert!(!rises(&table(wrong)), "{wrong:?}");
+    }
+}
+
 /// The comparison sees a case that is missing, renamed, moved or renumbered.
 #[test]
 fn differences_are_seen() {
-    let code = "pub enum Refusal {\n    BadKey,\n    // SELF\n    OwnPeer,\n}\n";
-    let right = cases(code);
-    assert_eq!(right, [("BAD_KEY".to_string(), 1), ("SELF".to_string(), 2)]);
-    let lines = "/* Refusals. */\n#define SP_BAD_KEY 1 /* a key */\n#define SP_SELF 2\n\n\
-                 #define SP_X 3\n    case SP_SELF: return \"SELF\";\n";
+    let code = "pub enum Refusal {\n    BadKey,\n    // SELF\n    OwnPeer,\n}\n\
+                Refusal::BadKey => 1,\nRefusal::OwnPeer => 30,\n";
+    let right = numbers(code);
+    assert_eq!(
+        right,
+        [("BAD_KEY".to_string(), 1), ("SELF".to_string(), 30)]
+    );
+    assert_eq!(cases(code), names(&right));
+    let moved = code
+        .replace("    BadKey,\n", "")
+        .replace("Peer,\n", "Peer,\n    BadKey,\n");
+    assert_ne!(cases(&moved), names(&right));
+    let lines = "/* Refusals. */\n#define SP_BAD_KEY 1 /* a key */\n#define SP_SELF 30\n\n\
+                 #define SP_X 31\n    case SP_SELF: return \"SELF\";\n";
     assert_eq!(listed(lines), right);
     for (old, new) in [
         ("#define SP_BAD_KEY 1", ""),
         ("BAD_KEY", "BAD_KEYS"),
-        ("SELF 2", "SELF 3"),
+        ("SELF 30", "SELF 2"),
         (
-            "#define SP_SELF 2\n",
-            "#define SP_SELF 2\n#define SP_STALE 3\n",
+            "#define SP_SELF 30\n",
+            "#define SP_SELF 30\n#define SP_STALE 31\n",
         ),
     ] {
         assert_ne!(listed(&lines.replace(old, new)), right, "{old} as {new}");
@@ -143,10 +170,10 @@ fn differences_are_seen() {
         returned(&lines.replace("\"SELF\"", "\"SELVES\"")),
         self_named
     );
-    let defined = "number refusal.BadKey = 1\nnumber refusal.OwnPeer = 2\nlastNumber = 2\n";
+    let defined = "number refusal.BadKey = 1\nnumber refusal.OwnPeer = 30\nlastNumber = 30\n";
     assert_eq!(definition(defined), right);
-    assert_eq!(last_number(defined), 2);
-    let model = "refusals! {\n    BadKey = 1,\n    SelfPeer = 2,\n}\n";
+    assert_eq!(last_number(defined), 30);
+    let model = "refusals! {\n    BadKey = 1,\n    SelfPeer = 30,\n}\n";
     assert_eq!(reference(model), right);
-    assert_ne!(reference(&model.replace("= 2", "= 3")), right);
+    assert_ne!(reference(&model.replace("= 30", "= 2")), right);
 }

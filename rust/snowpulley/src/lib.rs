@@ -4,6 +4,7 @@
 //! modules give them types: a clock, a peer table and the answers as Rust
 //! values, and a refusal as an error.
 
+pub mod audit;
 pub mod checksum;
 pub mod clock;
 pub mod entry;
@@ -17,6 +18,7 @@ pub mod refusal;
 pub mod ring;
 pub mod store;
 
+pub use audit::{deliveries, explain, Explained, Reason};
 pub use clock::Clock;
 pub use entry::{Content, Entry, Stamp};
 pub use frame::Message;

@@ -2,9 +2,11 @@
 
 pub mod checksums;
 pub mod clock;
+pub mod explain;
 pub mod frames;
 pub mod handler;
 pub mod image;
+pub mod list;
 pub mod message;
 pub mod peers;
 pub mod ring;

@@ -1,5 +1,6 @@
 //! The commands, each in a module of its own.
 
+mod audit;
 mod demo;
 mod owners;
 mod refusal;
@@ -14,6 +15,7 @@ pub const ALL: &[Command] = &[
     demo::COMMAND,
     show::COMMAND,
     replay::COMMAND,
+    audit::COMMAND,
     owners::COMMAND,
     ring::COMMAND,
     refusal::COMMAND,

@@ -7,22 +7,25 @@ use crate::journal::{Broken, Record, Records};
 use crate::module::Module;
 use crate::text::message::{name, of_frame, of_message};
 use crate::text::table::{Side, Table};
+use snowpulley::audit::DELIVERIES_MAX;
 use snowpulley::{frame, store, Message, Refusal};
 use std::collections::BTreeMap;
 use std::fmt::Write;
 
 pub const COMMAND: Command = Command {
     name: "replay",
-    usage: "JOURNAL [--store OUT] [--replies OUT] [--full]",
+    usage: "JOURNAL [--store OUT] [--replies OUT] [--deliveries OUT] [--full]",
     summary: "answer a journal's requests and show them with their replies",
     help: &["\
 Answers the requests of a journal as the replay program does, with a store of
 100 slots and a clock of node id 1. Shows each request with its time and reply,
 and how often each reply was given. JOURNAL is a file, or - for standard input.
 
-  --store OUT    write the store's image after the last request to a file
-  --replies OUT  write the reply frames to a file
-  --full         show all of long keys and values
+  --store OUT       write the store's image after the last request to a file
+  --replies OUT     write the reply frames to a file
+  --deliveries OUT  write the REPL frames that were answered OK to a file, as a
+                    list for snowpulley audit; what PUT and DEL wrote is not in it
+  --full            show all of long keys and values
 
 A journal that ends inside a record, or has a LEN out of range, is a negative
 answer.
@@ -41,6 +44,7 @@ const REQUEST_WIDTH: usize = 48;
 
 fn run(mut args: Args) -> Outcome {
     let (image, replies) = (args.option("--store")?, args.option("--replies")?);
+    let deliveries = args.option("--deliveries")?;
     let full = args.flag("--full");
     let journal = files::read(&args.operand("JOURNAL")?)?;
     let mut replay = Replay::fresh(if full { usize::MAX } else { SHORT })?;
@@ -51,13 +55,57 @@ fn run(mut args: Args) -> Outcome {
     if let Some(path) = replies {
         files::write(&path, &replay.replies)?;
     }
-    replay.report()
+    let mut note = String::new();
+    if let Some(path) = deliveries {
+        files::write(&path, &replay.written.deliveries)?;
+        note = replay.written.note();
+    }
+    let Report { text, is_good } = replay.report()?;
+    let text = text + &note;
+    Ok(Report { text, is_good })
+}
+
+/// The requests to write that were answered OK.
+#[derive(Default)]
+struct Written {
+    /// The REPL frames, one right after the other.
+    deliveries: Vec<u8>,
+    /// How many they are.
+    delivered: usize,
+    /// How many PUT and DEL there were.
+    own: usize,
+}
+
+impl Written {
+    fn add(&mut self, frame: &[u8]) {
+        match frame::read(frame) {
+            Ok(Message::Repl(_)) => {
+                self.deliveries.extend(frame);
+                self.delivered += 1;
+            }
+            Ok(Message::Put { .. } | Message::Del { .. }) => self.own += 1,
+            _ => {}
+        }
+    }
+
+    fn note(&self) -> String {
+        let Written { delivered, own, .. } = self;
+        let many = if *delivered > DELIVERIES_MAX {
+            format!(", more than the {DELIVERIES_MAX} that an audit takes")
+        } else {
+            String::new()
+        };
+        format!(
+            "deliveries written: {delivered}{many}; PUT and DEL that are not in the list: {own}\n"
+        )
+    }
 }
 
 struct Replay {
     module: Module,
     /// The reply frames so far.
     replies: Vec<u8>,
+    written: Written,
     /// How often each reply was given.
     counts: BTreeMap<(u8, String), usize>,
     lines: Vec<String>,
@@ -70,6 +118,7 @@ impl Replay {
         Ok(Replay {
             module: Module::fresh(NODE, SLOTS)?,
             replies: Vec::new(),
+            written: Written::default(),
             counts: BTreeMap::new(),
             lines: Vec::new(),
             limit,
@@ -89,6 +138,9 @@ impl Replay {
 
     fn answer(&mut self, Record { time, frame }: Record<'_>) -> Result<(), Failure> {
         let reply = self.module.answer(time, frame).to_vec();
+        if frame::read(&reply) == Ok(Message::Ok) {
+            self.written.add(frame);
+        }
         self.line(&time.to_string(), &of_frame(frame, self.limit), &reply)
     }
 

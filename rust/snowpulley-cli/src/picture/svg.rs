@@ -1,5 +1,6 @@
 //! Writing SVG elements.
 
+use crate::text::markup::escaped;
 use std::fmt::Write;
 
 #[derive(Clone, Copy, Debug, PartialEq)]
@@ -97,12 +98,6 @@ impl Svg {
             self.body
         )
     }
-}
-
-fn escaped(text: &str) -> String {
-    text.replace('&', "&amp;")
-        .replace('<', "&lt;")
-        .replace('>', "&gt;")
 }
 
 #[cfg(test)]

@@ -2,6 +2,7 @@
 
 pub mod bytes;
 pub mod entries;
+pub mod markup;
 pub mod message;
 pub mod table;
 pub mod time;

@@ -1,0 +1,11 @@
+pub mod Seeing
+pub mod Leading
+pub mod Winning
+pub mod Walking
+pub mod Holding
+pub mod Reasons
+pub mod Marking
+pub mod Pairs
+pub mod ConflictMeanings
+pub mod Refusals
+pub mod Answering

@@ -1,0 +1,100 @@
+use borrow.Author.Needs.{needs}
+use native.Mathlib.Omega.{arith}
+use mathlib.Core.Path.{_≡_, refl, _∙_}
+use mathlib.Core.List.{_++_}
+use Prim.Native.Nat.{_-_}
+use lib.ListN.{length, take, drop, length-set}
+use Rattle.explain.specs.Winner.{winner}
+use Rattle.explain.specs.Reason.{reasonsFor}
+use Rattle.explain.specs.Walk.{entriesIn}
+use Rattle.explain.proofs.Walking.{Stands, Step, most, stands-first, step, met-all, write-turn, write-done}
+use Rattle.explain.proofs.walk.write_reasons.Statement.{statement}
+use Rattle.explain.proofs.walk.write_reasons.Tie as tie
+
+abbrev Inv-loop : tie.InvT-loop
+Inv-loop list key lead reasons₀ at₀ place₀ reasons at place =
+    Stands list (entriesIn list) at place × (length reasons ≡ length reasons₀)
+    × (reasons ≡ take place (reasonsFor key (entriesIn list) (winner key (entriesIn list))) ++ drop place reasons₀)
+
+abbrev μ-loop : tie.MeasureT-loop
+μ-loop list key lead reasons₀ at₀ place₀ reasons at place = length list - at
+
+loop-holds : tie.Need-loop-holds Inv-loop μ-loop
+loop-holds c = let a = c .before .before .before in (stands-first (a .args .list .now) (a .pre .0), refl, refl)
+
+sub-look : tie.Need-sub-look Inv-loop μ-loop
+sub-look c = search needs
+
+part-look-start : tie.Need-part-look-start Inv-loop μ-loop
+part-look-start c = search needs
+
+part-look-end : tie.Need-part-look-end Inv-loop μ-loop
+part-look-end c = search needs
+
+look-requires : tie.Need-look-requires Inv-loop μ-loop
+look-requires c κs = search needs
+
+byte-of-requires : tie.Need-byte-of-requires Inv-loop μ-loop
+byte-of-requires c κs = search needs
+
+-- the delivery that a turn meets
+abbrev begun : tie.After-look Inv-loop μ-loop → tie.Start Inv-loop μ-loop
+begun c = c .before .before .before .before .before .before .before
+
+met : (c : tie.After-look Inv-loop μ-loop) → let l = c .before .before .before .loop in
+    Step (begun c .args .list .now) (begun c .args .key .now) (entriesIn (begun c .args .list .now)) (l .at) (l .place) (c .look .result)
+met c = let t = c .before .before in step (t .before .loop .inv .0) (t .loop-test .taken) _ _ (c .look .ensures .0)
+
+slice-write-reasons : tie.Need-slice-write-reasons Inv-loop μ-loop
+slice-write-reasons c =
+    let t = c .before in
+    omega (arith, met t .more, begun t .pre .1, t .before .before .before .loop .inv .1)
+
+add-at : tie.Need-add-at Inv-loop μ-loop
+add-at c = search needs
+
+add-place : tie.Need-add-place Inv-loop μ-loop
+add-place c = let t = c .before .before in omega (arith, met t .more, most (begun t .args .list .now) (begun t .pre .0))
+
+loop-less : tie.Need-loop-less Inv-loop μ-loop
+loop-less c = let t = met (c .before .before) in omega (arith, t .some-bytes, t .next .within)
+
+loop-again : tie.Need-loop-again Inv-loop μ-loop
+loop-again c =
+    let t = met (c .before .before) in
+    let l = c .before .before .before .before .before .loop in
+    let start = begun (c .before .before) in (
+      t .next,
+      simp length-set (l .inv .1),
+      write-turn (start .args .key .now) (entriesIn (start .args .list .now)) (start .args .reasons .now) t (start .pre .1) _ (start .pre .2)
+          _ (c .before .byte-of .ensures) _ (l .inv .2),
+    )
+
+same-length : tie.Need-same-length Inv-loop μ-loop
+same-length c = search needs
+
+returns : tie.Need-returns Inv-loop μ-loop
+returns c =
+    let l = c .before .loop in
+    let a = c .before .before .before .before .before .args in
+    l .inv .2 ∙ write-done (a .key .now) (entriesIn (a .list .now)) (a .reasons .now) (l .place) (met-all (l .inv .0) (c .loop-test .left))
+
+pub write-reasons-spec : {M : Type 1} → statement M
+write-reasons-spec =
+    tie.close
+    (tie.spec
+    Inv-loop
+    μ-loop
+    loop-holds
+    sub-look
+    part-look-start
+    part-look-end
+    look-requires
+    byte-of-requires
+    slice-write-reasons
+    add-at
+    add-place
+    loop-less
+    loop-again
+    same-length
+    returns)

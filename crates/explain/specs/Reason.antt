@@ -1,0 +1,55 @@
+-- Why a delivery lost, and the byte that says so.
+use Prim.Native.Nat.{ℕ, suc}
+use mathlib.Core.Bool.{cond, not}
+use mathlib.Core.List.{List, [], _∷_}
+use mathlib.Core.Option.{Option, none, some}
+use lib.ListN.{length, replicate}
+use lib.Dec.{eqb}
+use Rattle.entry.specs.declared.Stamp.{Stamp}
+use Rattle.entry.specs.Entry.{Entry}
+use Rattle.explain.specs.Winner.{isOf, Placed}
+
+-- the bytes (R250)
+abbrev pub won : ℕ
+won = 0
+
+abbrev pub earlierTime : ℕ
+earlierTime = 1
+
+abbrev pub lowerCount : ℕ
+lowerCount = 2
+
+abbrev pub lowerNode : ℕ
+lowerNode = 3
+
+abbrev pub sameEntry : ℕ
+sameEntry = 4
+
+abbrev pub otherKey : ℕ
+otherKey = 5
+
+-- why a delivery with the stamp s lost to the winner with the stamp w: the first field in which
+-- they differ (R249)
+unfoldable pub reason : Stamp → Stamp → ℕ
+reason w s =
+    cond (not (eqb (s .phys) (w .phys))) earlierTime
+    (cond (not (eqb (s .logical) (w .logical))) lowerCount
+    (cond (not (eqb (s .node) (w .node))) lowerNode
+    sameEntry))
+
+-- the byte of the delivery d at place i, where w won (R250)
+unfoldable pub byteOf : List ℕ → Placed → ℕ → Entry → ℕ
+byteOf k w i d =
+    cond (not (isOf k d)) otherKey
+    (cond (eqb i (w .place)) won
+    (reason (w .entry .stamp) (d .stamp)))
+
+-- of each of some deliveries, from place i on
+unfoldable pub bytesFrom : List ℕ → Placed → ℕ → List Entry → List ℕ
+bytesFrom k w i [] = []
+bytesFrom k w i (d ∷ ds) = byteOf k w i d ∷ bytesFrom k w (suc i) ds
+
+-- one byte for each delivery; all are of other keys where none won (R250)
+abbrev pub reasonsFor : List ℕ → List Entry → Option Placed → List ℕ
+reasonsFor k es none = replicate (length es) otherKey
+reasonsFor k es (some w) = bytesFrom k w 0 es

@@ -1,0 +1,333 @@
+//! `snowpulley audit`, on lists of frames that the reference makes.
+
+mod common;
+
+use common::{file, here, run, run_with, temporary, Run};
+use reference::store::{create, image_length, offer, value};
+use samples::script::{framed, put_message, record, repl_message, stamp};
+use support::Rng;
+
+const MORNING: u64 = 1_736_836_800_000;
+const HOUR: u64 = 3_600_000;
+const KEY: &[u8] = b"comp/scale-3";
+
+fn repl(key: &[u8], at: (u64, u16, u8), value: Option<&[u8]>) -> Vec<u8> {
+    framed(&repl_message(key, stamp(at.0, at.1, at.2), value))
+}
+
+/// Every outcome; text, bytes that are no text, deletions and long values.
+fn frames() -> Vec<Vec<u8>> {
+    let late = MORNING + 2 * HOUR;
+    vec![
+        repl(KEY, (MORNING, 7, 9), Some(b"-8C +120, 20C 0")),
+        repl(b"zero", (late, 0, 2), Some(b"0")),
+        repl(KEY, (MORNING + HOUR, 0, 2), None),
+        repl(KEY, (late, 1, 3), Some(b"-8C +95, 20C 0")),
+        repl(
+            KEY,
+            (late, 0, 9),
+            Some(b"<b>-8C +90 & more</b>  later, long"),
+        ),
+        repl(KEY, (late, 1, 2), Some(&[0xC8; 33])),
+        repl(KEY, (late, 1, 3), Some(b"-8C +95, 20C 0")),
+        repl(b"test-load", (MORNING, 0, 1), Some(b"50 kg")),
+        repl(b"test-load", (late, 0, 1), None),
+        repl(&[0xFF, 0], (0, 0, 0), Some(&[b'v'; 512])),
+    ]
+}
+
+fn list() -> Vec<u8> {
+    frames().concat()
+}
+
+/// The answer on a list, with options and a key.
+fn asked(list: &[u8], words: &[&str]) -> Run {
+    run_with(&[&["audit", "-"], words].concat(), list)
+}
+
+#[test]
+fn which_one_is_in_force_and_why_not_the_others() {
+    asked(&list(), &["comp/scale-3"]).says(0, "audit.txt");
+    asked(&list(), &["comp/scale-3", "--all"]).says(0, "audit-all.txt");
+    let full = asked(&list(), &["comp/scale-3", "--full", "--all"]);
+    assert!(full.out.contains(&"v".repeat(512)) && full.out.contains(&"c8".repeat(33)));
+    let path = file("audit-list", &list());
+    let named = run(&["audit".as_ref(), path.as_os_str(), "comp/scale-3".as_ref()]);
+    let shown = path.display().to_string();
+    assert_eq!(
+        named.out.replace(&shown, "standard input"),
+        asked(&list(), &["comp/scale-3"]).out
+    );
+}
+
+#[test]
+fn a_deletion_and_keys_that_are_not_in_the_list() {
+    asked(&list(), &["test-load"]).says(0, "audit-deleted.txt");
+    asked(&list(), &["comp/scale-"]).says(1, "audit-never.txt");
+    asked(&[], &["comp/scale-3"]).says(1, "audit-empty.txt");
+    let all = asked(&list(), &["comp/scale-", "--all"]);
+    assert_eq!(all.out.matches("another key\n").count(), frames().len());
+}
+
+#[test]
+fn a_key_in_hexadecimal() {
+    asked(&list(), &["--hex", "ff00"]).says(0, "audit-hex.txt");
+    let out = asked(&list(), &["--hex", "ff00"]).out;
+    for same in ["xff00", "FF00"] {
+        assert_eq!(asked(&list(), &["--hex", same]).out, out);
+    }
+    for wrong in ["ff0", "x", "0xff", "fg", "é"] {
+        let run = asked(&list(), &["--hex", wrong]);
+        assert_eq!(run.status, 2, "{wrong}");
+        assert!(run.err.starts_with("snowpulley: audit: "), "{run:?}");
+    }
+}
+
+/// Two deliveries of the key that have one stamp, and values that begin alike.
+fn conflicting() -> Vec<Vec<u8>> {
+    let mut frames = frames();
+    let values = [
+        [&[b'v'; 40][..], b"1"].concat(),
+        [&[b'v'; 40][..], b"2"].concat(),
+    ];
+    for value in &values {
+        frames.push(repl(KEY, (MORNING, 0, 1), Some(value)));
+    }
+    frames
+}
+
+#[test]
+fn two_that_have_one_stamp_and_differ() {
+    let mut frames = conflicting();
+    asked(&frames.concat(), &["comp/scale-3"]).says(1, "audit-conflict.txt");
+    let others = asked(&frames.concat(), &["test-load"]);
+    assert_eq!(others.status, 0);
+    frames.pop();
+    frames.push(repl(KEY, (MORNING, 0, 1), None));
+    let deleted = asked(&frames.concat(), &["comp/scale-3"]);
+    assert!(deleted.lines()[0].contains("and delivery 11 (deleted) have the same stamp"));
+}
+
+/// What follows two right deliveries, and what it is.
+fn tails() -> Vec<(&'static str, Vec<u8>)> {
+    let frame = repl(KEY, (MORNING, 0, 1), Some(b"v"));
+    let mut damaged = frame.clone();
+    damaged[20] ^= 1;
+    vec![
+        ("one byte", frame[..1].to_vec()),
+        (
+            "all of a frame but one byte",
+            frame[..frame.len() - 1].to_vec(),
+        ),
+        ("LEN 5", vec![0, 5, 1, 2, 3, 4, 5]),
+        ("a damaged frame", damaged),
+        ("a PUT", framed(&put_message(KEY, b"v"))),
+        ("a record of a journal", record(MORNING, &frame)),
+    ]
+}
+
+#[test]
+fn lists_that_cannot_be_read_are_told() {
+    let mut text = String::new();
+    for (what, tail) in tails() {
+        let run = asked(
+            &[&frames()[..2].concat(), &tail[..]].concat(),
+            &["comp/scale-3"],
+        );
+        assert_eq!((run.status, run.err.as_str()), (1, ""), "{what}");
+        text += &format!("{what}:\n{}\n", run.lines()[0]);
+    }
+    let many = repl(KEY, (MORNING, 0, 1), None).repeat(1001);
+    let run = asked(&many, &["comp/scale-3"]);
+    text += &format!("1001 deliveries:\n{}\n", run.lines()[0]);
+    assert_eq!(
+        asked(&many[..many.len() / 1001 * 1000], &["comp/scale-3"]).status,
+        0
+    );
+    Run { out: text, ..run }.says(1, "audit-unreadable.txt");
+    asked(&list()[..100], &["comp/scale-3"]).says(1, "audit-cut.txt");
+}
+
+/// The page that a run writes.
+fn page(name: &str, list: &[u8], words: &[&str]) -> String {
+    let path = temporary(name);
+    let html = format!("--html={}", path.display());
+    let run = asked(list, &[words, &[html.as_str()]].concat());
+    assert!(run.status < 2 && run.err.is_empty(), "{run:?}");
+    std::fs::read_to_string(path).unwrap()
+}
+
+/// Every element is closed, and nothing is loaded or run.
+fn is_a_page(html: &str) {
+    let names: Vec<&str> = html
+        .split('<')
+        .skip(1)
+        .filter_map(|t| t.split([' ', '>']).next())
+        .collect();
+    let mut open = Vec::new();
+    for name in names {
+        match name.strip_prefix('/') {
+            Some(name) => assert_eq!(open.pop(), Some(name)),
+            None if ["!DOCTYPE", "meta", "col"].contains(&name) => {}
+            None => open.push(name),
+        }
+    }
+    assert!(open.is_empty(), "{open:?}");
+    for word in ["<script", "<img", "<link", "url(", "http", "@import"] {
+        assert!(!html.contains(word), "{word}");
+    }
+}
+
+#[test]
+fn the_page() {
+    let html = page("audit.html", &list(), &["comp/scale-3"]);
+    is_a_page(&html);
+    let (status, err) = (0, String::new());
+    let out = html.clone();
+    Run { status, out, err }.says(0, "audit.html");
+    assert!(html.contains("&lt;b&gt;-8C +90 &amp; more&lt;/b&gt;  later"));
+    assert!(html.contains(&"c8".repeat(33)));
+    let all = page("audit-all.html", &list(), &["comp/scale-3", "--all"]);
+    is_a_page(&all);
+    assert!(all.contains(&"v".repeat(512)) && all.contains("<td>xff00</td>"));
+}
+
+/// The page has what the text has.
+#[test]
+fn the_page_and_the_text_say_the_same() {
+    let cut = &list()[..100];
+    let lists = [&list()[..], &[], cut];
+    for (number, list) in lists.into_iter().enumerate() {
+        for key in ["comp/scale-3", "test-load", "<none> & \"such\""] {
+            let words = [key, "--full"];
+            let html = page(&format!("audit-same-{number}"), list, &words);
+            is_a_page(&html);
+            let text = asked(list, &words);
+            let texts = text.lines().into_iter().flat_map(|line| line.split("  "));
+            for part in texts.map(str::trim) {
+                let part = part
+                    .replace('&', "&amp;")
+                    .replace('<', "&lt;")
+                    .replace('>', "&gt;");
+                assert!(html.contains(&part), "{part}");
+            }
+        }
+    }
+}
+
+/// A list and a key for each answer, and what its page names: the contract, then
+/// the theorems.
+fn answers() -> [(Vec<u8>, &'static str, &'static [&'static str]); 4] {
+    [
+        (
+            list(),
+            "comp/scale-3",
+            &["explain", "winner-is-held", "reasons-mean"],
+        ),
+        (
+            list(),
+            "comp/scale-",
+            &["explain", "none-means", "winner-is-held"],
+        ),
+        (
+            conflicting().concat(),
+            "comp/scale-3",
+            &["explain", "conflict-exactly"],
+        ),
+        (
+            list()[..100].to_vec(),
+            "comp/scale-3",
+            &["explain", "report-refused"],
+        ),
+    ]
+}
+
+/// The document for auditors speaks of all that the pages name.
+#[test]
+fn the_document_has_what_each_page_names() {
+    let document = std::fs::read_to_string(here().join("../../docs/AUDIT.md")).unwrap();
+    let mut feet = String::new();
+    for (number, (list, key, expected)) in answers().into_iter().enumerate() {
+        let html = page(&format!("audit-foot-{number}"), &list, &[key]);
+        is_a_page(&html);
+        let (_, foot) = html.split_once("<footer>").unwrap();
+        let (foot, _) = foot.split_once("</footer>").unwrap();
+        feet += &format!("<footer>{foot}</footer>\n");
+        let names = foot.split("<code>").skip(1);
+        let names: Vec<&str> = names.filter_map(|rest| rest.split('<').next()).collect();
+        assert_eq!(names, expected);
+        for name in names {
+            let known = document.contains(&format!("`{name}`"));
+            assert!(known, "docs/AUDIT.md does not name {name}");
+        }
+    }
+    let (status, err) = (0, String::new());
+    let out = feet;
+    Run { status, out, err }.says(0, "audit-feet.html");
+}
+
+#[test]
+fn bad_usage_is_told() {
+    run(&["audit"]).fails("audit: LIST is missing");
+    run(&["audit", "-"]).fails("audit: KEY is missing");
+    run(&["audit", "-", "k", "l"]).fails("audit: too many words: 'l'");
+    run(&["audit", "-", "k", "--html"]).fails("audit: --html needs a value");
+    let reserved = asked(&list(), &["_sys:a"]);
+    assert_eq!(reserved.status, 2);
+    let told = "snowpulley: audit: key \"_sys:a\": refused with 1 BAD_KEY: ";
+    assert!(reserved.err.starts_with(told), "{reserved:?}");
+    // The list is looked at before the key.
+    assert_eq!(asked(&list()[1..], &["_sys:a"]).status, 1);
+    let nowhere = temporary("no-such-folder").join("page.html");
+    let run = asked(&list(), &["k", "--html", nowhere.to_str().unwrap()]);
+    assert_eq!(run.status, 2);
+    assert!(run.err.contains("page.html"), "{run:?}");
+}
+
+/// A store that was offered the key's deliveries holds what the tool names.
+#[test]
+fn the_one_in_force_is_the_one_that_the_reference_holds() {
+    let mut rng = Rng::new(23);
+    for _ in 0..40 {
+        let mut image = vec![0; image_length(1)];
+        create(&mut image, 1).unwrap();
+        let mut list = Vec::new();
+        for _ in 0..1 + rng.below(30) {
+            let (phys, logical, node) = (rng.below(4), rng.below(3), rng.below(3));
+            let at = stamp(phys, logical as u16, node as u8);
+            // One stamp, one value.
+            let content = format!("{phys}.{logical}.{node}");
+            let key = if rng.one_in(3) { b"l" } else { b"k" };
+            list.extend(framed(&repl_message(key, at, Some(content.as_bytes()))));
+            if key == b"k" {
+                offer(&mut image, key, content.as_bytes(), 0, at).unwrap();
+            }
+        }
+        let held = String::from_utf8(value(&image, b"k").to_vec()).unwrap();
+        let run = asked(&list, &["k"]);
+        let named = format!(" is in force for \"k\": \"{held}\", stamped ");
+        let never = run.lines()[0] == "The list has no delivery of \"k\".";
+        assert!(
+            run.lines()[0].contains(&named) || never && held.is_empty(),
+            "{run:?}"
+        );
+        assert_eq!(run.status, i32::from(never));
+    }
+}
+
+/// Whatever the bytes are, there is an answer, and no control code is printed.
+#[test]
+fn any_bytes_can_be_audited() {
+    let mut rng = Rng::new(29);
+    for number in 0..40 {
+        let mut damaged = list();
+        let at = rng.index(damaged.len());
+        damaged[at] ^= 1 + rng.below(255) as u8;
+        for bytes in [damaged, rng.bytes(1 + number * 9)] {
+            let run = asked(&bytes, &["comp/scale-3", "--all"]);
+            assert_eq!((run.status, run.err.as_str()), (1, ""));
+            assert!(run.lines()[0].contains("cannot be read"), "{run:?}");
+            assert!(!run.out.chars().any(|c| c.is_control() && c != '\n'));
+        }
+    }
+}

@@ -1,0 +1,226 @@
+//! The report on a list of deliveries: which delivery of a key is in force, and
+//! why not the others. A list is REPL frames, one right after the other, in the
+//! order in which they came; places in it count from 0.
+
+use crate::entry::Entry;
+use crate::frame::{self, Message, LEN_BYTES, LEN_RANGE};
+use crate::raw;
+use crate::refusal::{split, Refusal};
+use snowpulley_sys as header;
+use std::fmt;
+
+pub use snowpulley_sys::SP_DELIVERIES_MAX as DELIVERIES_MAX;
+
+/// The number of deliveries of a list that is readable.
+pub fn deliveries(list: &[u8]) -> Result<usize, Refusal> {
+    split(raw::deliveries(list)).map(usize::from)
+}
+
+/// What the library says of a key.
+#[derive(Clone, Copy, Debug, PartialEq, Eq)]
+pub enum Explained {
+    /// The place of the delivery that is in force.
+    Winner(usize),
+    /// The key was never delivered.
+    NoDelivery,
+    /// The places of two deliveries of the key that have equal stamps and
+    /// differ.
+    Conflict { earlier: usize, later: usize },
+    /// Any refusal but `Refusal::Conflict`.
+    Refused(Refusal),
+}
+
+/// Names the winner among the deliveries of a key. The front of `reasons` gets
+/// the byte of a `Reason` for each delivery of the list; a refusal and a
+/// conflict leave it.
+pub fn explain(list: &[u8], key: &[u8], reasons: &mut [u8]) -> Explained {
+    let word = raw::explain(list, key, reasons);
+    taken_apart(word).unwrap_or_else(|| panic!("an answer of the header, not {word:#x}"))
+}
+
+const NO_DELIVERY: usize = header::SP_NO_DELIVERY as usize;
+
+/// What a word of `raw::explain` says; None for one that the header does not
+/// allow.
+fn taken_apart(word: u64) -> Option<Explained> {
+    let refusal = match u16::try_from(word >> 32).ok()? {
+        0 => None,
+        number => Some(Refusal::from_number(number)?),
+    };
+    let places = [word, word >> 16].map(|bits| usize::from(bits as u16));
+    match (refusal, places) {
+        (None, [NO_DELIVERY, 0]) => Some(Explained::NoDelivery),
+        (None, [place, 0]) if place < DELIVERIES_MAX => Some(Explained::Winner(place)),
+        (Some(Refusal::Conflict), [earlier, later])
+            if earlier < later && later < DELIVERIES_MAX =>
+        {
+            Some(Explained::Conflict { earlier, later })
+        }
+        (Some(why @ (Refusal::BadArgument | Refusal::BadKey | Refusal::NoRoom)), [0, 0]) => {
+            Some(Explained::Refused(why))
+        }
+        _ => None,
+    }
+}
+
+/// What is said of a delivery, the winner or not.
+#[derive(Clone, Copy, Debug, PartialEq, Eq)]
+#[repr(u8)]
+pub enum Reason {
+    Won = header::SP_WON,
+    EarlierTime = header::SP_EARLIER_TIME,
+    LowerCount = header::SP_LOWER_COUNT,
+    LowerNode = header::SP_LOWER_NODE,
+    SameEntry = header::SP_SAME_ENTRY,
+    OtherKey = header::SP_OTHER_KEY,
+}
+
+impl Reason {
+    /// Every reason, in the order of the bytes.
+    pub const ALL: [Reason; 6] = [
+        Reason::Won,
+        Reason::EarlierTime,
+        Reason::LowerCount,
+        Reason::LowerNode,
+        Reason::SameEntry,
+        Reason::OtherKey,
+    ];
+
+    /// None for a byte that no reason has.
+    pub fn of(byte: u8) -> Option<Reason> {
+        Reason::ALL.into_iter().find(|reason| *reason as u8 == byte)
+    }
+
+    /// How the delivery compares with the winner.
+    pub const fn text(self) -> &'static str {
+        match self {
+            Reason::Won => "won",
+            Reason::EarlierTime => "earlier time",
+            Reason::LowerCount => "same time, lower count",
+            Reason::LowerNode => "same time and count, lower node id",
+            Reason::SameEntry => "the same entry again",
+            Reason::OtherKey => "another key",
+        }
+    }
+}
+
+impl fmt::Display for Reason {
+    fn fmt(&self, f: &mut fmt::Formatter<'_>) -> fmt::Result {
+        f.write_str(self.text())
+    }
+}
+
+/// A delivery of a list.
+#[derive(Clone, Copy, Debug, PartialEq, Eq)]
+pub struct Delivery<'a> {
+    /// The byte of the list at which its frame begins.
+    pub at: usize,
+    pub entry: Entry<'a>,
+}
+
+/// The first delivery that makes a list unreadable.
+#[derive(Clone, Copy, Debug, PartialEq, Eq)]
+pub struct Unreadable<'a> {
+    pub place: usize,
+    /// The byte of the list at which its frame begins.
+    pub at: usize,
+    pub fault: Fault<'a>,
+}
+
+/// What is wrong with a delivery.
+#[derive(Clone, Copy, Debug, PartialEq, Eq)]
+pub enum Fault<'a> {
+    /// The list ends inside the frame, of which this many bytes are there.
+    Cut(usize),
+    /// LEN is out of range.
+    Len(usize),
+    /// The frame reader refuses the frame.
+    Refused(Refusal),
+    /// The frame is of another type than REPL.
+    NoRepl(Message<'a>),
+    /// As many deliveries as a list may have stand before it.
+    TooMany,
+}
+
+/// The deliveries of a list: its frames cut at LEN, each read by the library's
+/// reader. They are there exactly where `deliveries` gives their number; where
+/// it refuses, this says why.
+pub fn read(list: &[u8]) -> Result<Vec<Delivery<'_>>, Unreadable<'_>> {
+    let mut deliveries = Vec::new();
+    let mut at = 0;
+    while at < list.len() {
+        let place = deliveries.len();
+        let unreadable = |fault| Unreadable { place, at, fault };
+        let (entry, length) = first(&list[at..]).map_err(unreadable)?;
+        if place == DELIVERIES_MAX {
+            return Err(unreadable(Fault::TooMany));
+        }
+        deliveries.push(Delivery { at, entry });
+        at += length;
+    }
+    Ok(deliveries)
+}
+
+/// The entry of the frame that some bytes begin with, and the frame's length.
+fn first(bytes: &[u8]) -> Result<(Entry<'_>, usize), Fault<'_>> {
+    let cut = Fault::Cut(bytes.len());
+    let len = bytes.first_chunk::<LEN_BYTES>().ok_or(cut)?;
+    let len = usize::from(u16::from_be_bytes(*len));
+    if !LEN_RANGE.contains(&len) {
+        return Err(Fault::Len(len));
+    }
+    let frame = bytes.get(..LEN_BYTES + len).ok_or(cut)?;
+    match frame::read(frame).map_err(Fault::Refused)? {
+        Message::Repl(entry) => Ok((entry, frame.len())),
+        other => Err(Fault::NoRepl(other)),
+    }
+}
+
+#[cfg(test)]
+mod tests {
+    use super::{taken_apart, Explained};
+    use crate::Refusal;
+
+    #[test]
+    fn answers_are_taken_apart() {
+        let conflict = |earlier, later| Explained::Conflict { earlier, later };
+        let right = [
+            (0, Explained::Winner(0)),
+            (999, Explained::Winner(999)),
+            (65_535, Explained::NoDelivery),
+            (17 << 32, Explained::Refused(Refusal::BadArgument)),
+            (1 << 32, Explained::Refused(Refusal::BadKey)),
+            (4 << 32, Explained::Refused(Refusal::NoRoom)),
+            (30 << 32 | 1 << 16, conflict(0, 1)),
+            (30 << 32 | 999 << 16 | 998, conflict(998, 999)),
+        ];
+        for (word, said) in right {
+            assert_eq!(taken_apart(word), Some(said), "{word:#x}");
+        }
+    }
+
+    /// Places out of range, bits that nothing takes, refusals of other calls.
+    #[test]
+    fn other_words_are_none() {
+        let wrong = [
+            1000,
+            65_534,
+            1 << 16,
+            1 << 16 | 65_535,
+            30 << 32,
+            30 << 32 | 5 << 16 | 5,
+            30 << 32 | 4 << 16 | 5,
+            30 << 32 | 1000 << 16 | 5,
+            17 << 32 | 1,
+            17 << 32 | 1 << 16,
+            4 << 32 | 65_535,
+            3 << 32,
+            18 << 32,
+            1 << 48,
+            1 << 63 | 17 << 32,
+        ];
+        for word in wrong {
+            assert_eq!(taken_apart(word), None, "{word:#x}");
+        }
+    }
+}
