@@ -405,15 +405,19 @@ sp_result sp_handle(uint8_t *store, size_t store_len, uint64_t *clock, size_t cl
  * frames, one right after the other, in the order in which they came. It is readable if it has no
  * more than SP_DELIVERIES_MAX frames, sp_frame_read reads each of them, each is a REPL, and no
  * byte is left over; so the empty list is readable. The place of a delivery is its number in the
- * list, counted from 0. */
+ * list, counted from 0. A REPL has up to 597 bytes, so a readable list up to 597000.
+ *
+ * Of what a module is sent, keep the REPL frames that sp_handle answered with OK. A module's own
+ * PUT and DEL, and what came by sp_store_offer or sp_store_merge, are in no such list: the report
+ * is on the list alone, and the module may hold an entry with a greater stamp than the winner's. */
 
 /* The answer is the number of deliveries in the list, 0 to SP_DELIVERIES_MAX.
  *   SP_BAD_ARGUMENT     the list is not readable */
 sp_result sp_deliveries(const uint8_t *list, size_t list_len);
 
-/* What sp_explain answers: a refusal in bits 32 to 47 (0: none), and in bits 0 to 31 the winner's
- * place or the two places of SP_CONFLICT. Bits that none of these takes are 0. SP_IS_REFUSED,
- * SP_REFUSAL and SP_ANSWER are for an sp_result, and not for this. */
+/* What sp_explain answers: a refusal from bit 32 on (0: none), and below it the winner's place or
+ * the two places of SP_CONFLICT. Of the bits below it, those that no place takes are 0.
+ * SP_IS_REFUSED, SP_REFUSAL and SP_ANSWER are for an sp_result, and not for this. */
 typedef uint64_t sp_explained;
 #define SP_EXPLAINED_IS_REFUSED(r) (SP_EXPLAINED_REFUSAL(r) != 0)
 #define SP_EXPLAINED_REFUSAL(r) ((uint32_t)((r) >> 32))
@@ -422,10 +426,10 @@ typedef uint64_t sp_explained;
 #define SP_EXPLAINED_LATER(r) ((uint32_t)(r) >> 16)       /* of SP_CONFLICT: bits 16 to 31 */
 #define SP_NO_DELIVERY 65535 /* the winner's place where no delivery is of the key */
 
-/* The bytes that it writes, one for each delivery. The first is the winner's, and the last that of
- * every delivery of another key, so of all where there is no winner. The others say why a delivery
- * of the key lost: by the first field in which its stamp and the winner's differ, or as the same
- * entry. */
+/* The bytes that it writes, one for each delivery. SP_WON is the winner's byte, and SP_OTHER_KEY
+ * that of every delivery of another key, so of all where there is no winner. The others say why a
+ * delivery of the key lost: by the first field in which its stamp and the winner's differ, or as
+ * the same entry. */
 #define SP_WON 0
 #define SP_EARLIER_TIME 1 /* a lower phys */
 #define SP_LOWER_COUNT 2  /* the same phys, a lower logical */

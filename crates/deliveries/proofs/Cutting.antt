@@ -24,7 +24,7 @@ use Rattle.frame.specs.Message.{repl, messageRefusal, InRange}
 use Rattle.frame.specs.Layout.{maxFrame}
 use Rattle.frame.specs.Reading.{message, meaning, numberAt, readBody, readAnswer, readFrame}
 use Rattle.frame.proofs.Envelopes.{holding}
-use Rattle.frame.proofs.RoundTrips.{read-is-taken, read-envelope, read-lies-within, unchecked-reads-repl, unchecked-lies-within}
+use Rattle.frame.proofs.RoundTrips.{read-is-taken, read-holds, read-lies-within, unchecked-reads-repl, unchecked-lies-within}
 use Rattle.deliveries.specs.declared.Cut.{Cut}
 use Rattle.deliveries.specs.declared.Cut.the-variants.{Nothing, Delivery}
 use Rattle.deliveries.specs.Cut.{firstLength, firstFrame, cutIn, cutAnswer, cutUnchecked, deliveryIn}
@@ -183,13 +183,13 @@ module _ (s : List ℕ) where
     pub first-long : 8 ≤ firstLength s
     first-long =
         let l = length-first s in
-        let k = holding (firstFrame s) (read-envelope (firstFrame s) (repl e) first-reads) in
+        let k = holding (firstFrame s) (read-holds (firstFrame s) (repl e) first-reads) in
         omega (arith, l, k .least, k .whole)
 
     pub first-short : firstLength s ≤ maxFrame
     first-short =
         let l = length-first s in
-        let k = holding (firstFrame s) (read-envelope (firstFrame s) (repl e) first-reads) in
+        let k = holding (firstFrame s) (read-holds (firstFrame s) (repl e) first-reads) in
         omega (arith, l, k .most, k .whole)
 
     -- of bytes it is acceptable, and its numbers are in range

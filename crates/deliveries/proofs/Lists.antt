@@ -15,7 +15,7 @@ use Rattle.frame.specs.Message.{repl}
 use Rattle.frame.specs.Reading.{message, numberAt, readFrame}
 use Rattle.frame.proofs.Envelopes.{holding}
 use Rattle.frame.proofs.Bodies.{repl-refusal}
-use Rattle.frame.proofs.RoundTrips.{read-envelope, written-reads-back}
+use Rattle.frame.proofs.RoundTrips.{read-holds, written-reads-back}
 use Rattle.deliveries.specs.Cut.{firstLength, firstFrame}
 use Rattle.deliveries.specs.List.{maxDeliveries, entryIn, firstEntry, deliveriesOf, deliveries, refused, counted, countAnswer}
 use Rattle.deliveries.specs.Meaning.{endToEnd, Read, ReadableAs, ReadableExactly, CountExactly, AllTaken, framesOf, DeliveriesReadBack}
@@ -33,7 +33,7 @@ module _ (f more : List ℕ) (e : Entry) (h : readFrame f ≡ message (repl e)) 
   front-length : firstLength (f ++ more) ≡ length f
   unfolding firstLength numberAt
   front-length =
-      let k = holding f (read-envelope f (repl e) h) in
+      let k = holding f (read-holds f (repl e) h) in
       let n : numberAt 0 2 (f ++ more) ≡ numberAt 0 2 f = ap num (field-front 0 2 f more (omega (arith, k .least, k .whole))) in
       omega (arith, k .whole, n, length-append f more)
 

@@ -35,7 +35,7 @@ cutIn e (Refused r) = Nothing
 unfoldable pub cutAnswer : List ℕ → Cut
 cutAnswer s = cutIn (firstLength s) (readAnswer (firstFrame s))
 
--- the same with no test of the envelope (R198)
+-- the same with no test of the envelope or of TYPE (R198)
 unfoldable pub cutUnchecked : List ℕ → Cut
 cutUnchecked s = cutIn (firstLength s) (readBody 4 (firstFrame s))
 

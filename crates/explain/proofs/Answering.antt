@@ -16,9 +16,9 @@ use Rattle.deliveries.specs.declared.Counted.the-variants.{Deliveries, Refused}
 use Rattle.deliveries.specs.List.{deliveriesOf, deliveries, refused as notCounted, countOf, counted, countAnswer}
 use Rattle.explain.specs.Winner.{Placed, winner}
 use Rattle.explain.specs.Conflict.{Pair, firstConflict}
-use Rattle.explain.specs.declared.walk.Lead.{Lead}
+use Rattle.explain.specs.declared.walk.Best.{Best}
 use Rattle.explain.specs.Explain.{Answer, won, noDelivery, refusedFor, refused, isRefused, named, explainFor, explainAnswer, reported, afterExplain}
-use Rattle.explain.specs.Walk.{entriesIn, Readable, leadOf}
+use Rattle.explain.specs.Walk.{entriesIn, Readable, bestOf}
 use Rattle.explain.proofs.Refusals.{not-refused, answer-for, report-writes}
 
 -- ---- what the count says
@@ -48,7 +48,7 @@ module _ (list k out : List ℕ) where
   Says a after = (a ≡ explainAnswer list k out) × (after ≡ afterExplain list k out)
 
   refuses : (a : Answer) → isRefused a ≡ true → a ≡ explainAnswer list k out → Says a out
-  refuses a r h = (h, sym (report-writes list k out .none (ap isRefused (sym h) ∙ r)))
+  refuses a r h = (h, sym (report-writes list k out .refused (ap isRefused (sym h) ∙ r)))
 
   pub says-unreadable : deliveriesOf list ≡ none → Says (refused 17) out
   unfolding isRefused
@@ -83,17 +83,17 @@ module _ (list k out : List ℕ) where
           says-named : (a : Answer) → a ≡ named (winner k (entriesIn list)) → (after : List ℕ) → after ≡ reported k (entriesIn list) out → Says a after
           says-named a h after w = (h ∙ sym named-answer, written after w)
 
-          lead-won : (o : Option Placed) (x : Lead) → x ≡ leadOf o → x .found ≡ true → won (x .place) ≡ named o
-          lead-won none x h t = clash t (ap (λ (y : Lead). y .found) h)
-          lead-won (some w) x h t = ap (λ (y : Lead). won (y .place)) h
+          best-won : (o : Option Placed) (x : Best) → x ≡ bestOf o → x .found ≡ true → won (x .place) ≡ named o
+          best-won none x h t = clash t (ap (λ (y : Best). y .found) h)
+          best-won (some w) x h t = ap (λ (y : Best). won (y .place)) h
 
-          lead-none : (o : Option Placed) (x : Lead) → x ≡ leadOf o → x .found ≡ false → noDelivery ≡ named o
-          lead-none none x h t = refl
-          lead-none (some w) x h t = clash (ap (λ (y : Lead). y .found) h) t
+          best-none : (o : Option Placed) (x : Best) → x ≡ bestOf o → x .found ≡ false → noDelivery ≡ named o
+          best-none none x h t = refl
+          best-none (some w) x h t = clash (ap (λ (y : Best). y .found) h) t
 
-          module _ (x : Lead) (h : x ≡ leadOf (winner k (entriesIn list))) (after : List ℕ) (w : after ≡ reported k (entriesIn list) out) where
+          module _ (x : Best) (h : x ≡ bestOf (winner k (entriesIn list))) (after : List ℕ) (w : after ≡ reported k (entriesIn list) out) where
             pub says-won : x .found ≡ true → Says (won (x .place)) after
-            says-won t = says-named (won (x .place)) (lead-won (winner k (entriesIn list)) x h t) after w
+            says-won t = says-named (won (x .place)) (best-won (winner k (entriesIn list)) x h t) after w
 
             pub says-none : x .found ≡ false → Says noDelivery after
-            says-none t = says-named noDelivery (lead-none (winner k (entriesIn list)) x h t) after w
+            says-none t = says-named noDelivery (best-none (winner k (entriesIn list)) x h t) after w

@@ -35,7 +35,7 @@ use Rattle.deliveries.proofs.Runs.{Run, readable-run}
 use Rattle.explain.specs.Winner.{isOf, Placed, winner}
 use Rattle.explain.specs.Explain as report
 use Rattle.explain.specs.Meaning.{ofKey, offeredAll, WinnerIsHeld}
-use Rattle.explain.proofs.Leading.{lead, leads, winner-leads}
+use Rattle.explain.proofs.OneWalk.{bestAfter, bestOver, winner-over}
 use Rattle.explain.proofs.Winning.{key-of, winner-wins}
 use Rattle.explain.proofs.Refusals.{unrefused, names-won, names-none}
 
@@ -86,11 +86,11 @@ module _ (C : ℕ) (lo : 1 ≤ C) (hi : C ≤ mostSlots) where
   unfolding allAcceptable acceptable ascending belowFirst
   holds-one e ok r = record { room = omega arith; fit = (fits e ok (r .0) (r .1), tt); each = rw (eq-eqb (refusalOf e) 0 ok); order = refl }
 
-  -- ---- the leader is held
+  -- ---- the best so far is held
   -- the store that holds it
-  abbrev led : Option Placed → List ℕ
-  led none = image C []
-  led (some w) = image C (w .entry ∷ [])
+  abbrev heldFor : Option Placed → List ℕ
+  heldFor none = image C []
+  heldFor (some w) = image C (w .entry ∷ [])
 
   module _ (k : List ℕ) where
     -- it is an acceptable delivery of the key
@@ -104,9 +104,9 @@ module _ (C : ℕ) (lo : 1 ≤ C) (hi : C ≤ mostSlots) where
         let e : d .key ≡ h .key = key-of k d p ∙ sym (key-of k h q) in
         rw (ap (λ (j : List ℕ). keyBelow j (h .key)) e ∙ bytesBelow-irrefl (h .key), ap (λ (j : List ℕ). sameBytes j (h .key)) e ∙ sameBytes-refl (h .key))
 
-    -- after a delivery of the key was offered, the next leader is held
+    -- after a delivery of the key was offered, the best so far is held
     offer-next : (o : Option Placed) (i : ℕ) (d : Entry) → Fair o → Acceptable d → InRange (repl d) → isOf k d ≡ true
-        → (afterOffer (led o) d ≡ led (lead k o i d)) × Fair (lead k o i d)
+        → (afterOffer (heldFor o) d ≡ heldFor (bestAfter k o i d)) × Fair (bestAfter k o i d)
     unfolding put
     offer-next none i d f ok r p = rw p (offer-image [] d holds-none ok lo, (ok, r, p))
     offer-next (some w) i d f ok r p = elim (test (beats d (w .entry))) [
@@ -118,33 +118,33 @@ module _ (C : ℕ) (lo : 1 ≤ C) (hi : C ≤ mostSlots) where
           rw (p, q) (offer-image (w .entry ∷ []) d (holds-one (w .entry) (f .0) (f .1)) ok (rw e lo) ∙ ap (image C) e, f)
     ]
 
-    lead-other : (o : Option Placed) (i : ℕ) (d : Entry) → isOf k d ≡ false → lead k o i d ≡ o
-    lead-other none i d p = rw p
-    lead-other (some w) i d p = rw p
+    best-other : (o : Option Placed) (i : ℕ) (d : Entry) → isOf k d ≡ false → bestAfter k o i d ≡ o
+    best-other none i d p = rw p
+    best-other (some w) i d p = rw p
 
-    held-leads : (ds : List Entry) (o : Option Placed) (i : ℕ) → Fair o → AllTaken ds → offeredAll (ofKey k ds) (led o) ≡ led (leads k o i ds)
-    unfolding ofKey offeredAll leads
-    held-leads [] o i f t = refl
-    held-leads (d ∷ ds) o i f t = elim (test (isOf k d)) [
+    held-best : (ds : List Entry) (o : Option Placed) (i : ℕ) → Fair o → AllTaken ds → offeredAll (ofKey k ds) (heldFor o) ≡ heldFor (bestOver k o i ds)
+    unfolding ofKey offeredAll bestOver
+    held-best [] o i f t = refl
+    held-best (d ∷ ds) o i f t = elim (test (isOf k d)) [
       | inl p ↦ let n = offer-next o i d f (t .0) (t .1) p in
-          rw p (ap (offeredAll (ofKey k ds)) (n .0) ∙ held-leads ds (lead k o i d) (suc i) (n .1) (t .2))
-      | inr p ↦ rw (p, lead-other o i d p) (held-leads ds o (suc i) f (t .2))
+          rw p (ap (offeredAll (ofKey k ds)) (n .0) ∙ held-best ds (bestAfter k o i d) (suc i) (n .1) (t .2))
+      | inr p ↦ rw (p, best-other o i d p) (held-best ds o (suc i) f (t .2))
     ]
 
-    held-winner : (es : List Entry) → AllTaken es → offeredAll (ofKey k es) (freshStore C) ≡ led (winner k es)
+    held-winner : (es : List Entry) → AllTaken es → offeredAll (ofKey k es) (freshStore C) ≡ heldFor (winner k es)
     unfolding freshStore
-    held-winner es t = held-leads es none 0 tt t ∙ ap led (winner-leads k es)
+    held-winner es t = held-best es none 0 tt t ∙ ap heldFor (winner-over k es)
 
 pub winner-is-held : WinnerIsHeld
 unfolding report.isRefused freshStore
 winner-is-held list k out es b h C lo hi =
     let t = deliveries-taken list es b h in
     record {
-      one = λ i a.
+      winner = λ i a.
           let u = unrefused list k out es (report.won i) h a refl in
           let (w, e, p) = names-won (winner k es) i (u .names) in
-          (w .entry, ap (λ (n : ℕ). nth n es) (sym p) ∙ winner-wins k es w e .there, held-winner C lo hi k es t ∙ ap (led C lo hi) e);
-      none = λ a.
+          (w .entry, ap (λ (n : ℕ). nth n es) (sym p) ∙ winner-wins k es w e .there, held-winner C lo hi k es t ∙ ap (heldFor C lo hi) e);
+      no-delivery = λ a.
           let u = unrefused list k out es report.noDelivery h a refl in
-          held-winner C lo hi k es t ∙ ap (led C lo hi) (names-none (winner k es) (u .names));
+          held-winner C lo hi k es t ∙ ap (heldFor C lo hi) (names-none (winner k es) (u .names));
     }

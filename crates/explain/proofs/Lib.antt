@@ -1,5 +1,5 @@
 pub mod Seeing
-pub mod Leading
+pub mod OneWalk
 pub mod Winning
 pub mod Walking
 pub mod Holding

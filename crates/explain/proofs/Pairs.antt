@@ -27,7 +27,7 @@ use Rattle.explain.specs.Winner.{isOf}
 use Rattle.explain.specs.Conflict.{sameContents, firstConflict}
 use Rattle.explain.specs.ConflictMeaning.{Differ}
 use Rattle.explain.specs.Walk.{entriesIn}
-use Rattle.explain.specs.Marks.{noMark, markOf, entryAt, Marked, Alike, FirstSame, deliveryAt, alikeIn}
+use Rattle.explain.specs.Marks.{noMark, markOf, entryAt, Marked, Alike, FirstSame, deliveryAt, sameContentsIn}
 use Rattle.explain.proofs.Winning.{of-key, key-of}
 use Rattle.explain.proofs.ConflictMeanings.{Against, contents-differ, same-contents-eq, differ-against, differ-of, no-first, the-first}
 use Rattle.explain.proofs.Marking.{nth-at, at-nth, below-next}
@@ -81,18 +81,18 @@ module _ (list : List ℕ) (a : ℕ) (x : Cut) (c : x ≡ cutUnchecked (take (le
         ap (deliveryIn (drop a list)) (cut-there ∙ h) ∙ rw (k, ← drop-drop va a list) refl
 
 module _ (o p : Option Entry) (d e : Entry) (i : o ≡ some d) (j : p ≡ some e) where
-  pub differ-by-flag : (d .flag ≡ e .flag → ⊥) → false ≡ alikeIn o p
+  pub differ-by-flag : (d .flag ≡ e .flag → ⊥) → false ≡ sameContentsIn o p
   unfolding sameContents
   differ-by-flag h = rw (i, j, ne-eqb (d .flag) (e .flag) h)
 
-  pub differ-by-value : d .flag ≡ e .flag → (r : Bool) → r ≡ sameBytes (d .value) (e .value) → r ≡ alikeIn o p
+  pub differ-by-value : d .flag ≡ e .flag → (r : Bool) → r ≡ sameBytes (d .value) (e .value) → r ≡ sameContentsIn o p
   unfolding sameContents
   differ-by-value h r k = rw (i, j, eq-eqb (d .flag) (e .flag) h) k
 
-pub first-none : (o p : Option Entry) → o ≡ none → false ≡ alikeIn o p
+pub first-none : (o p : Option Entry) → o ≡ none → false ≡ sameContentsIn o p
 first-none o p h = rw h refl
 
-pub second-none : (o p : Option Entry) (d : Entry) → o ≡ some d → p ≡ none → false ≡ alikeIn o p
+pub second-none : (o p : Option Entry) (d : Entry) → o ≡ some d → p ≡ none → false ≡ sameContentsIn o p
 second-none o p d i h = rw (i, h) refl
 
 -- ---- the search
@@ -217,12 +217,12 @@ module _ {list k times marks starts : List ℕ} {j i : ℕ} (t : Turn list k tim
   pub turn-alone : j ≤ i → Clear k (entriesIn list) (j + 1)
   turn-alone h = turn-next (λ a g. before-first a (omega arith))
 
-  module _ (h : i < j) (b : Bool) (c : b ≡ alikeIn (deliveryAt list (getD starts i 0)) (deliveryAt list (getD starts j 0))) where
+  module _ (h : i < j) (b : Bool) (c : b ≡ sameContentsIn (deliveryAt list (getD starts i 0)) (deliveryAt list (getD starts j 0))) where
     earlier-place : i < length (entriesIn list)
     earlier-place = let p = t .place in omega arith
 
     told : b ≡ sameContents (at i) (at j)
-    told = c ∙ ap₂ alikeIn (begins-at list (getD starts i 0) (at i) (t .kept i earlier-place .start))
+    told = c ∙ ap₂ sameContentsIn (begins-at list (getD starts i 0) (at i) (t .kept i earlier-place .start))
         (begins-at list (getD starts j 0) (at j) (t .kept j (t .place) .start))
 
     one-stamp : (at i .key ≡ k) × (at j .key ≡ k) × (at i .stamp ≡ at j .stamp)

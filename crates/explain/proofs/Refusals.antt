@@ -161,8 +161,8 @@ names-none (some w) h = never (cc)
 pub report-writes : ReportWrites
 unfolding afterExplain reported
 report-writes list k out = record {
-  none = λ r. rw r refl;
-  some = λ es d r.
+  refused = λ r. rw r refl;
+  reported = λ es d r.
       let u = unrefused list k out es (explainAnswer list k out) d refl r in
       let m = length-reasons k es (winner k es) in
       let e : afterExplain list k out ≡ reasonsFor k es (winner k es) ++ drop (length es) out = rw (r, d) refl in (

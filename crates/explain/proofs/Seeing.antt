@@ -1,4 +1,4 @@
--- One delivery: what is seen of it, whether it takes the lead, and its byte.
+-- One delivery: what is seen of it, whether it is the best so far, and its byte.
 use Prim.Native.Nat.{ℕ, _+_, _-_, _≤_}
 use mathlib.Core.Path.{_≡_, refl, sym, ap, _∙_}
 use mathlib.Core.Bool.{Bool, true, false}
@@ -14,45 +14,45 @@ use Rattle.deliveries.specs.declared.Cut.the-variants.{Nothing, Delivery}
 use Rattle.deliveries.specs.Cut.{cutUnchecked}
 use Rattle.deliveries.proofs.Cutting.{unchecked-within}
 use Rattle.explain.specs.declared.walk.Seen.{Seen}
-use Rattle.explain.specs.declared.walk.Lead.{Lead}
+use Rattle.explain.specs.declared.walk.Best.{Best}
 use Rattle.explain.specs.Reason.{won, earlierTime, lowerCount, lowerNode, sameEntry, otherKey, reason}
-use Rattle.explain.specs.Walk.{seenIn, seen, takesLead, nextLead, byteBy}
+use Rattle.explain.specs.Walk.{seenIn, seen, isBetter, nextBest, byteBy}
 
--- ---- the lead
-module _ (lead : Lead) (see : Seen) where
-  pub lead-other : see .matches ≡ false → false ≡ takesLead lead see
-  unfolding takesLead
-  lead-other h = rw h
+-- ---- the best so far
+module _ (best : Best) (see : Seen) where
+  pub best-other : see .matches ≡ false → false ≡ isBetter best see
+  unfolding isBetter
+  best-other h = rw h
 
-  pub lead-first : see .matches ≡ true → lead .found ≡ false → true ≡ takesLead lead see
-  unfolding takesLead
-  lead-first h f = rw (h, f)
+  pub best-first : see .matches ≡ true → best .found ≡ false → true ≡ isBetter best see
+  unfolding isBetter
+  best-first h f = rw (h, f)
 
-  pub lead-by-stamp : see .matches ≡ true → lead .found ≡ true → stampBelow (lead .stamp) (see .stamp) ≡ takesLead lead see
-  unfolding takesLead
-  lead-by-stamp h f = rw (h, f)
+  pub best-by-stamp : see .matches ≡ true → best .found ≡ true → stampBelow (best .stamp) (see .stamp) ≡ isBetter best see
+  unfolding isBetter
+  best-by-stamp h f = rw (h, f)
 
   module _ (i : ℕ) where
-    pub lead-stays : takesLead lead see ≡ false → lead ≡ nextLead lead i see
-    unfolding nextLead
-    lead-stays h = rw h
+    pub best-stays : isBetter best see ≡ false → best ≡ nextBest best i see
+    unfolding nextBest
+    best-stays h = rw h
 
-    pub lead-taken : takesLead lead see ≡ true → record { found = true; place = i; stamp = see .stamp } ≡ nextLead lead i see
-    unfolding nextLead
-    lead-taken h = rw h
+    pub best-taken : isBetter best see ≡ true → record { found = true; place = i; stamp = see .stamp } ≡ nextBest best i see
+    unfolding nextBest
+    best-taken h = rw h
 
     -- ---- the byte
-    pub byte-other : see .matches ≡ false → otherKey ≡ byteBy lead i see
+    pub byte-other : see .matches ≡ false → otherKey ≡ byteBy best i see
     unfolding byteBy
     byte-other h = rw h
 
-    pub byte-won : see .matches ≡ true → i ≡ lead .place → won ≡ byteBy lead i see
+    pub byte-won : see .matches ≡ true → i ≡ best .place → won ≡ byteBy best i see
     unfolding byteBy
-    byte-won h e = rw (h, eq-eqb i (lead .place) e)
+    byte-won h e = rw (h, eq-eqb i (best .place) e)
 
-    pub byte-lost : see .matches ≡ true → (i ≡ lead .place → ⊥) → reason (lead .stamp) (see .stamp) ≡ byteBy lead i see
+    pub byte-lost : see .matches ≡ true → (i ≡ best .place → ⊥) → reason (best .stamp) (see .stamp) ≡ byteBy best i see
     unfolding byteBy
-    byte-lost h e = rw (h, ne-eqb i (lead .place) e)
+    byte-lost h e = rw (h, ne-eqb i (best .place) e)
 
 -- ---- the reason
 module _ (w s : Stamp) where

@@ -22,12 +22,12 @@ use Rattle.deliveries.specs.List.{maxDeliveries, firstEntry}
 use Rattle.deliveries.proofs.Cutting.{begins, first-long, first-within}
 use Rattle.deliveries.proofs.Runs.{Run, readable-run}
 use Rattle.explain.specs.declared.walk.Seen.{Seen}
-use Rattle.explain.specs.declared.walk.Lead.{Lead}
+use Rattle.explain.specs.declared.walk.Best.{Best}
 use Rattle.explain.specs.Winner.{isOf, Placed, winner}
 use Rattle.explain.specs.Reason.{otherKey, byteOf, bytesFrom, reasonsFor}
 use Rattle.explain.specs.Explain.{reported}
-use Rattle.explain.specs.Walk.{entriesIn, Readable, seenIn, seen, takesLead, nextLead, leadOf, byteBy}
-use Rattle.explain.proofs.Leading.{lead, leads, winner-leads}
+use Rattle.explain.specs.Walk.{entriesIn, Readable, seenIn, seen, isBetter, nextBest, bestOf, byteBy}
+use Rattle.explain.proofs.OneWalk.{bestAfter, bestOver, winner-over}
 use Rattle.explain.proofs.Winning.{none-of-key}
 
 -- what is seen of the delivery e at the front
@@ -85,7 +85,7 @@ module _ {s : List ℕ} {es : List Entry} {at i : ℕ} (w : Stands s es at i) wh
         };
       }
 
-  -- a turn of the walk, with what a call of look answered
+  -- a turn of the walk, with what a call of peek answered
   pub step : at < length s → (k : List ℕ) (x : Seen) → x ≡ seen (take (length s - at) (drop at s)) k → Step s k es at i x
   step l k x h = step-in (drop i es) refl (w .run) l k x h
 
@@ -99,32 +99,32 @@ module _ {s : List ℕ} {es : List Entry} {at i : ℕ} (w : Stands s es at i) wh
       let d : length (drop i es) ≡ 0 = ap length (end-in (drop i es) (w .run) l) in
       omega (arith, length-drop i es, d, w .place)
 
--- ---- the lead
-next-is : (k : List ℕ) (o : Option Placed) (i : ℕ) (e : Entry) (n : ℕ) → nextLead (leadOf o) i (sight k e n) ≡ leadOf (lead k o i e)
-unfolding nextLead takesLead beats
+-- ---- the best so far
+next-is : (k : List ℕ) (o : Option Placed) (i : ℕ) (e : Entry) (n : ℕ) → nextBest (bestOf o) i (sight k e n) ≡ bestOf (bestAfter k o i e)
+unfolding nextBest isBetter beats
 next-is k none i e n = elim (test (isOf k e)) [ inl p ↦ rw p | inr p ↦ rw p ]
 next-is k (some w) i e n = elim (test (isOf k e && stampBelow (w .entry .stamp) (e .stamp))) [ inl p ↦ rw p | inr p ↦ rw p ]
 
--- the lead after i deliveries is such that the others will make the winner of it
-pub Leading : List ℕ → List Entry → ℕ → Lead → Type 0
-Leading k es i l = (o : Option Placed) × (l ≡ leadOf o) × (leads k o i (drop i es) ≡ winner k es)
+-- the best after i deliveries is such that the others will make the winner of it
+pub SoFar : List ℕ → List Entry → ℕ → Best → Type 0
+SoFar k es i l = (o : Option Placed) × (l ≡ bestOf o) × (bestOver k o i (drop i es) ≡ winner k es)
 
-pub leading-first : (k : List ℕ) (es : List Entry) → Leading k es 0 (leadOf none)
-unfolding Leading
-leading-first k es = (none, refl, winner-leads k es)
+pub so-far-first : (k : List ℕ) (es : List Entry) → SoFar k es 0 (bestOf none)
+unfolding SoFar
+so-far-first k es = (none, refl, winner-over k es)
 
-pub leading-next : {s k : List ℕ} {es : List Entry} {at i : ℕ} {x : Seen} (t : Step s k es at i x) (l : Lead) → Leading k es i l
-    → Leading k es (i + 1) (nextLead l i x)
-unfolding Leading leads
-leading-next {k = k} {es} {i = i} {x} t l (o, q, h) = (
-  lead k o i (t .entry),
-  ap (λ (y : Lead). nextLead y i x) q ∙ ap (nextLead (leadOf o) i) (t .saw) ∙ next-is k o i (t .entry) (x .end),
-  ap (λ (j : ℕ). leads k (lead k o i (t .entry)) j (drop (i + 1) es)) (add-one i) ∙ ap (leads k o i) (sym (t .is)) ∙ h,
+pub so-far-next : {s k : List ℕ} {es : List Entry} {at i : ℕ} {x : Seen} (t : Step s k es at i x) (l : Best) → SoFar k es i l
+    → SoFar k es (i + 1) (nextBest l i x)
+unfolding SoFar bestOver
+so-far-next {k = k} {es} {i = i} {x} t l (o, q, h) = (
+  bestAfter k o i (t .entry),
+  ap (λ (y : Best). nextBest y i x) q ∙ ap (nextBest (bestOf o) i) (t .saw) ∙ next-is k o i (t .entry) (x .end),
+  ap (λ (j : ℕ). bestOver k (bestAfter k o i (t .entry)) j (drop (i + 1) es)) (add-one i) ∙ ap (bestOver k o i) (sym (t .is)) ∙ h,
 )
 
-pub leading-end : (k : List ℕ) (es : List Entry) (i : ℕ) (l : Lead) → Leading k es i l → i ≡ length es → l ≡ leadOf (winner k es)
-unfolding Leading leads
-leading-end k es i l (o, q, h) e = let z : length es ≤ i = omega arith in q ∙ ap leadOf (ap (leads k o i) (sym (drop-of-length-le es z)) ∙ h)
+pub so-far-end : (k : List ℕ) (es : List Entry) (i : ℕ) (l : Best) → SoFar k es i l → i ≡ length es → l ≡ bestOf (winner k es)
+unfolding SoFar bestOver
+so-far-end k es i l (o, q, h) e = let z : length es ≤ i = omega arith in q ∙ ap bestOf (ap (bestOver k o i) (sym (drop-of-length-le es z)) ∙ h)
 
 -- ---- the bytes
 length-bytes : (k : List ℕ) (w : Placed) (i : ℕ) (es : List Entry) → length (bytesFrom k w i es) ≡ length es
@@ -155,7 +155,7 @@ module _ (k : List ℕ) (es : List Entry) (i : ℕ) (d : Entry) (n : nth i es �
   pub other-at : getD (reasonsFor k es none) i 0 ≡ otherKey
   other-at = getD-replicate (length es) i otherKey 0 (nth-within i es d n)
 
-  byte-for : (o : Option Placed) → winner k es ≡ o → (m : ℕ) → getD (reasonsFor k es o) i 0 ≡ byteBy (leadOf o) i (sight k d m)
+  byte-for : (o : Option Placed) → winner k es ≡ o → (m : ℕ) → getD (reasonsFor k es o) i 0 ≡ byteBy (bestOf o) i (sight k d m)
   unfolding byteBy byteOf
   byte-for none h m = rw (none-of-key k es h i d n) other-at
   byte-for (some w) h m = byte-at w
@@ -165,13 +165,13 @@ module _ (k : List ℕ) (es : List Entry) (out : List ℕ) where
   abbrev pub bytes : List ℕ
   bytes = reasonsFor k es (winner k es)
 
-  pub write-turn : {s : List ℕ} {at i : ℕ} {x : Seen} (t : Step s k es at i x) → length es ≤ length out → (l : Lead) → l ≡ leadOf (winner k es)
+  pub write-turn : {s : List ℕ} {at i : ℕ} {x : Seen} (t : Step s k es at i x) → length es ≤ length out → (l : Best) → l ≡ bestOf (winner k es)
       → (b : ℕ) → b ≡ byteBy l i x → (r : List ℕ) → r ≡ take i bytes ++ drop i out
       → set r i b ≡ take (i + 1) bytes ++ drop (i + 1) out
   write-turn {i = i} {x} t m l le b be r re =
-      let g : getD bytes i 0 ≡ byteBy (leadOf (winner k es)) i (sight k (t .entry) (x .end))
+      let g : getD bytes i 0 ≡ byteBy (bestOf (winner k es)) i (sight k (t .entry) (x .end))
       = byte-for k es i (t .entry) (nth-there i es (t .entry) _ (t .is)) (winner k es) refl (x .end) in
-      let v : b ≡ getD bytes i 0 = be ∙ ap (λ (y : Lead). byteBy y i x) le ∙ ap (byteBy (leadOf (winner k es)) i) (t .saw) ∙ sym g in
+      let v : b ≡ getD bytes i 0 = be ∙ ap (λ (y : Best). byteBy y i x) le ∙ ap (byteBy (bestOf (winner k es)) i) (t .saw) ∙ sym g in
       rw (re, v) (copy-step bytes out i (omega (arith, t .more)) (omega (arith, t .more, length-reasons k es (winner k es))))
 
   pub write-done : (i : ℕ) → i ≡ length es → take i bytes ++ drop i out ≡ reported k es out

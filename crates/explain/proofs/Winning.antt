@@ -12,7 +12,7 @@ use Rattle.wire.proofs.Order.{sameBytes-eq, sameBytes-refl}
 use Rattle.entry.specs.Entry.{Entry, beats}
 use Rattle.store.specs.Listing.{nth}
 use Rattle.explain.specs.Winner.{isOf, unbeaten, Placed, firstUnbeaten, winner}
-use Rattle.explain.proofs.Leading.{leads, winner-leads, beaten-too}
+use Rattle.explain.proofs.OneWalk.{bestOver, winner-over, beaten-too}
 
 -- ---- deliveries of the key
 module _ (k : List ℕ) (d : Entry) where
@@ -94,27 +94,27 @@ winner-wins k es w h =
     }
 
 -- ---- none
-leads-some : (k : List ℕ) (w : Placed) (i : ℕ) (ds : List Entry) {A : Type 0} → leads k (some w) i ds ≡ none → A
-unfolding leads
-leads-some k w i [] h = absurd (Option·none-ne-some w (sym h))
-leads-some k w i (d ∷ ds) h = elim (test (isOf k d && beats d (w .entry))) [
-  | inl p ↦ leads-some k (record { place = i; entry = d }) (suc i) ds (rw p at h)
-  | inr p ↦ leads-some k w (suc i) ds (rw p at h)
+over-some : (k : List ℕ) (w : Placed) (i : ℕ) (ds : List Entry) {A : Type 0} → bestOver k (some w) i ds ≡ none → A
+unfolding bestOver
+over-some k w i [] h = absurd (Option·none-ne-some w (sym h))
+over-some k w i (d ∷ ds) h = elim (test (isOf k d && beats d (w .entry))) [
+  | inl p ↦ over-some k (record { place = i; entry = d }) (suc i) ds (rw p at h)
+  | inr p ↦ over-some k w (suc i) ds (rw p at h)
 ]
 
-not-led : (k : List ℕ) (i : ℕ) (d : Entry) (ds : List Entry) → leads k none i (d ∷ ds) ≡ none → (isOf k d ≡ false) × (leads k none (suc i) ds ≡ none)
-unfolding leads
-not-led k i d ds h = elim (test (isOf k d)) [
-  | inl p ↦ leads-some k (record { place = i; entry = d }) (suc i) ds (rw p at h)
+not-heldFor : (k : List ℕ) (i : ℕ) (d : Entry) (ds : List Entry) → bestOver k none i (d ∷ ds) ≡ none → (isOf k d ≡ false) × (bestOver k none (suc i) ds ≡ none)
+unfolding bestOver
+not-heldFor k i d ds h = elim (test (isOf k d)) [
+  | inl p ↦ over-some k (record { place = i; entry = d }) (suc i) ds (rw p at h)
   | inr p ↦ (p, rw p at h)
 ]
 
-never-led : (k : List ℕ) (i : ℕ) (ds : List Entry) → leads k none i ds ≡ none → (j : ℕ) (d : Entry) → nth j ds ≡ some d → isOf k d ≡ false
+never-heldFor : (k : List ℕ) (i : ℕ) (ds : List Entry) → bestOver k none i ds ≡ none → (j : ℕ) (d : Entry) → nth j ds ≡ some d → isOf k d ≡ false
 unfolding nth
-never-led k i [] h j d n = absurd (Option·none-ne-some d n)
-never-led k i (c ∷ ds) h zero d n = ap (isOf k) (sym (Option·some-injective c d n)) ∙ not-led k i c ds h .0
-never-led k i (c ∷ ds) h (suc j) d n = never-led k (suc i) ds (not-led k i c ds h .1) j d n
+never-heldFor k i [] h j d n = absurd (Option·none-ne-some d n)
+never-heldFor k i (c ∷ ds) h zero d n = ap (isOf k) (sym (Option·some-injective c d n)) ∙ not-heldFor k i c ds h .0
+never-heldFor k i (c ∷ ds) h (suc j) d n = never-heldFor k (suc i) ds (not-heldFor k i c ds h .1) j d n
 
 -- where there is no winner, no delivery is of the key
 pub none-of-key : (k : List ℕ) (es : List Entry) → winner k es ≡ none → (i : ℕ) (d : Entry) → nth i es ≡ some d → isOf k d ≡ false
-none-of-key k es h = never-led k 0 es (winner-leads k es ∙ h)
+none-of-key k es h = never-heldFor k 0 es (winner-over k es ∙ h)

@@ -53,10 +53,10 @@ unfoldable pub deliveryAt : List ℕ → ℕ → Option Entry
 deliveryAt list a = deliveryIn (drop a list) (cutUnchecked (drop a list))
 
 -- two deliveries with the same contents
-abbrev pub alikeIn : Option Entry → Option Entry → Bool
-alikeIn none o = false
-alikeIn (some d) none = false
-alikeIn (some d) (some e) = sameContents d e
+abbrev pub sameContentsIn : Option Entry → Option Entry → Bool
+sameContentsIn none o = false
+sameContentsIn (some d) none = false
+sameContentsIn (some d) (some e) = sameContents d e
 
 -- the pair that was found
 abbrev pub pairOf : Found → Option Pair

@@ -21,8 +21,8 @@ use Rattle.explain.specs.Conflict.{firstConflict}
 use Rattle.explain.specs.Explain.{won, noDelivery, refused, isRefused, explainAnswer, afterExplain}
 
 -- ---- the refusals
--- each is given exactly where its check is the first that fails; 30 has statements of its own
--- (R252)
+-- each is given exactly where its check is the first that fails (R252); 30 has statements of its
+-- own: by them `firstConflict k es ≡ none` says that no two deliveries of the key conflict
 pub record RefusedExactly (list k out : List ℕ) : Type 0 where
   pub unreadable : explainAnswer list k out ≡ refused 17 ↔ (deliveriesOf list ≡ none)
   pub bad-key : explainAnswer list k out ≡ refused 1 ↔ ((es : List Entry) × (deliveriesOf list ≡ some es) × (badKey k ≡ true))
@@ -33,11 +33,11 @@ pub record RefusedExactly (list k out : List ℕ) : Type 0 where
 abbrev pub ReportRefused : Type 0
 ReportRefused = (list k out : List ℕ) → RefusedExactly list k out
 
--- a refusal touches no byte of the output; where there is none, as many bytes as deliveries are
--- written (R250, R252)
+-- a refusal touches no byte of the output; where the call is not refused, as many bytes as
+-- deliveries are written, and later bytes stay (R29, R31, R250)
 pub record Writes (list k out : List ℕ) : Type 0 where
-  pub none : isRefused (explainAnswer list k out) ≡ true → afterExplain list k out ≡ out
-  pub some : (es : List Entry) → deliveriesOf list ≡ some es → isRefused (explainAnswer list k out) ≡ false
+  pub refused : isRefused (explainAnswer list k out) ≡ true → afterExplain list k out ≡ out
+  pub reported : (es : List Entry) → deliveriesOf list ≡ some es → isRefused (explainAnswer list k out) ≡ false
       → (length es ≤ length out) × (length (afterExplain list k out) ≡ length out) × (drop (length es) (afterExplain list k out) ≡ drop (length es) out)
 
 abbrev pub ReportWrites : Type 0
@@ -60,8 +60,8 @@ heldAfter C k es = offeredAll (ofKey k es) (freshStore C)
 
 -- it is the image of just the winner, or fresh for NONE (R253)
 pub record WinnerHeld (list k out : List ℕ) (es : List Entry) (C : ℕ) : Type 0 where
-  pub one : (i : ℕ) → explainAnswer list k out ≡ won i → (e : Entry) × (nth i es ≡ some e) × (heldAfter C k es ≡ image C (e ∷ []))
-  pub none : explainAnswer list k out ≡ noDelivery → heldAfter C k es ≡ freshStore C
+  pub winner : (i : ℕ) → explainAnswer list k out ≡ won i → (e : Entry) × (nth i es ≡ some e) × (heldAfter C k es ≡ image C (e ∷ []))
+  pub no-delivery : explainAnswer list k out ≡ noDelivery → heldAfter C k es ≡ freshStore C
 
 abbrev pub WinnerIsHeld : Type 0
 WinnerIsHeld = (list k out : List ℕ) (es : List Entry) → Bytes list → deliveriesOf list ≡ some es

@@ -15,7 +15,7 @@ use Rattle.deliveries.specs.declared.Cut.the-variants.{Nothing, Delivery}
 use Rattle.deliveries.specs.Cut.{cutUnchecked}
 use Rattle.deliveries.specs.List.{deliveriesOf}
 use Rattle.explain.specs.declared.walk.Seen.{Seen}
-use Rattle.explain.specs.declared.walk.Lead.{Lead}
+use Rattle.explain.specs.declared.walk.Best.{Best}
 use Rattle.explain.specs.Winner.{Placed}
 use Rattle.explain.specs.Reason.{won, otherKey, reason}
 use Rattle.explain.specs.Explain.{listed}
@@ -36,19 +36,19 @@ unfoldable pub seen : List ℕ → List ℕ → Seen
 seen list k = seenIn list k (cutUnchecked list)
 
 -- the best delivery so far, as it is kept
-abbrev pub leadOf : Option Placed → Lead
-leadOf none = record { found = false; place = 0; stamp = least }
-leadOf (some w) = record { found = true; place = w .place; stamp = w .entry .stamp }
+abbrev pub bestOf : Option Placed → Best
+bestOf none = record { found = false; place = 0; stamp = least }
+bestOf (some w) = record { found = true; place = w .place; stamp = w .entry .stamp }
 
 -- a delivery is the best so far if it is of the key, and is the first of it or has a stamp above
-unfoldable pub takesLead : Lead → Seen → Bool
-takesLead lead see = see .matches && (not (lead .found) || stampBelow (lead .stamp) (see .stamp))
+unfoldable pub isBetter : Best → Seen → Bool
+isBetter best see = see .matches && (not (best .found) || stampBelow (best .stamp) (see .stamp))
 
-unfoldable pub nextLead : Lead → ℕ → Seen → Lead
-nextLead lead i see = cond (takesLead lead see) (record { found = true; place = i; stamp = see .stamp }) lead
+unfoldable pub nextBest : Best → ℕ → Seen → Best
+nextBest best i see = cond (isBetter best see) (record { found = true; place = i; stamp = see .stamp }) best
 
-unfoldable pub byteBy : Lead → ℕ → Seen → ℕ
-byteBy lead i see =
+unfoldable pub byteBy : Best → ℕ → Seen → ℕ
+byteBy best i see =
     cond (not (see .matches)) otherKey
-    (cond (eqb i (lead .place)) won
-    (reason (lead .stamp) (see .stamp)))
+    (cond (eqb i (best .place)) won
+    (reason (best .stamp) (see .stamp)))

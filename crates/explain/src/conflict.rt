@@ -1,7 +1,7 @@
 // The search for two deliveries of a key that have one stamp and differ. Stamps and offsets are
 // kept in arrays, so that no frame is read again for each pair.
 use crate::walk::Seen;
-use crate::walk::look;
+use crate::walk::peek;
 use deliveries::Cut;
 use deliveries::cut_unchecked;
 use wire::same;
@@ -11,7 +11,7 @@ ghost use Prim.Native.Nat.{_+_, _*_, _≤_, _<_};
 ghost use lib.ListN.{length};
 ghost use Rattle.explain.specs.Conflict.{firstConflict};
 ghost use Rattle.explain.specs.Walk.{entriesIn, Readable};
-ghost use Rattle.explain.specs.Marks.{noMark, Marked, FirstSame, deliveryAt, alikeIn, pairOf};
+ghost use Rattle.explain.specs.Marks.{noMark, Marked, FirstSame, deliveryAt, sameContentsIn, pairOf};
 
 // The mark of a delivery of another key.
 const NO_MARK: u32 = 16_777_216;
@@ -40,7 +40,7 @@ fn keep_marks(list: &[u8], key: &[u8], times: &mut [u64], marks: &mut [u32], sta
     let mut at: usize = 0;
     let mut i: usize = 0;
     while at < list.len() {
-        let seen = look(&list[at..], key);
+        let seen = peek(&list[at..], key);
         times[i] = seen.stamp.phys;
         marks[i] = mark_of(seen);
         starts[i] = at as u32;
@@ -73,7 +73,7 @@ fn first_same(times: &[u64], marks: &[u32], j: usize) -> usize
 // Whether deliveries begin at two offsets, with the same flag and the same value.
 fn same_contents(list: &[u8], a: usize, b: usize) -> bool
     requires { ⌜ (a ≤ length (now list)) × (b ≤ length (now list)) ⌝ }
-    ensures { λ r. ⌜ r ≡ alikeIn (deliveryAt (now (list .entry)) a) (deliveryAt (now (list .entry)) b) ⌝ }
+    ensures { λ r. ⌜ r ≡ sameContentsIn (deliveryAt (now (list .entry)) a) (deliveryAt (now (list .entry)) b) ⌝ }
 {
     let one = cut_unchecked(&list[a..]);
     let Cut::Delivery {

@@ -44,10 +44,10 @@ pub fn explain(deliveries: &[u8], key: &[u8], reasons: &mut [u8]) -> Explained
     if reasons.len() < n {
         return Explained::Refused(Refusal::NoRoom);
     }
-    let lead = find_winner(deliveries, key);
-    write_reasons(deliveries, key, lead, reasons);
-    if lead.found {
-        Explained::Winner(lead.place)
+    let best = find_winner(deliveries, key);
+    write_reasons(deliveries, key, best, reasons);
+    if best.found {
+        Explained::Winner(best.place)
     } else {
         Explained::NoDelivery
     }

@@ -9,7 +9,7 @@ ghost use lib.ListN.{length};
 ghost use Rattle.explain.specs.Winner.{winner};
 ghost use Rattle.explain.specs.Reason.{reason};
 ghost use Rattle.explain.specs.Explain.{reported};
-ghost use Rattle.explain.specs.Walk.{entriesIn, Readable, seen, takesLead, nextLead, leadOf, byteBy};
+ghost use Rattle.explain.specs.Walk.{entriesIn, Readable, seen, isBetter, nextBest, bestOf, byteBy};
 
 const WON: u8 = 0;
 
@@ -32,15 +32,15 @@ pub(crate) struct Seen {
 }
 
 // The best delivery so far, if one of the key has come: its place and stamp.
-pub(crate) struct Lead {
+pub(crate) struct Best {
     pub(crate) found: bool,
     pub(crate) place: usize,
     pub(crate) stamp: Stamp,
 }
 
-// What is seen of the delivery at the front. Of bytes that do not begin with one: another key's, up
-// to their end.
-pub(crate) fn look(list: &[u8], key: &[u8]) -> Seen
+// What is seen of the delivery at the front. Bytes that do not begin with one match no key, and
+// are passed over whole.
+pub(crate) fn peek(list: &[u8], key: &[u8]) -> Seen
     ensures { λ r. ⌜ (r ≡ seen (now (list .entry)) (now (key .entry))) × (r .end ≤ length (now (list .entry))) ⌝ }
 {
     let front = cut_unchecked(list);
@@ -69,29 +69,29 @@ pub(crate) fn look(list: &[u8], key: &[u8]) -> Seen
 
 // Whether a delivery is the best so far: it is of the key, and is the first of it or beats the best
 // before it.
-fn takes_lead(lead: Lead, seen: Seen) -> bool
-    ensures { λ r. ⌜ r ≡ takesLead lead seen ⌝ }
+fn is_better(best: Best, seen: Seen) -> bool
+    ensures { λ r. ⌜ r ≡ isBetter best seen ⌝ }
 {
     if !seen.matches {
         return false;
     }
-    if !lead.found {
+    if !best.found {
         return true;
     }
-    let held = lead.stamp;
+    let held = best.stamp;
     let stamp = seen.stamp;
     held.is_below(stamp)
 }
 
-// The lead after the delivery at a place was seen.
-fn next_lead(lead: Lead, place: usize, seen: Seen) -> Lead
-    ensures { λ r. ⌜ r ≡ nextLead lead place seen ⌝ }
+// The best so far after the delivery at a place was seen.
+fn next_best(best: Best, place: usize, seen: Seen) -> Best
+    ensures { λ r. ⌜ r ≡ nextBest best place seen ⌝ }
 {
-    if !takes_lead(lead, seen) {
-        return lead;
+    if !is_better(best, seen) {
+        return best;
     }
     let stamp = seen.stamp;
-    Lead {
+    Best {
         found: true,
         place,
         stamp,
@@ -99,11 +99,11 @@ fn next_lead(lead: Lead, place: usize, seen: Seen) -> Lead
 }
 
 // The winning delivery of a readable list.
-pub(crate) fn find_winner(list: &[u8], key: &[u8]) -> Lead
+pub(crate) fn find_winner(list: &[u8], key: &[u8]) -> Best
     requires { ⌜ Readable (now list) ⌝ }
-    ensures { λ r. ⌜ r ≡ leadOf (winner (now (key .entry)) (entriesIn (now (list .entry)))) ⌝ }
+    ensures { λ r. ⌜ r ≡ bestOf (winner (now (key .entry)) (entriesIn (now (list .entry)))) ⌝ }
 {
-    let mut lead = Lead {
+    let mut best = Best {
         found: false,
         place: 0,
         stamp: Stamp::LEAST,
@@ -111,12 +111,12 @@ pub(crate) fn find_winner(list: &[u8], key: &[u8]) -> Lead
     let mut at: usize = 0;
     let mut place: usize = 0;
     while at < list.len() {
-        let seen = look(&list[at..], key);
-        lead = next_lead(lead, place, seen);
+        let seen = peek(&list[at..], key);
+        best = next_best(best, place, seen);
         at += seen.end;
         place += 1;
     }
-    lead
+    best
 }
 
 // Why a delivery of the key with this stamp lost to the winner: the first field in which they
@@ -137,30 +137,30 @@ fn reason(winner: Stamp, stamp: Stamp) -> u8
 }
 
 // The byte of the delivery at a place.
-fn byte_of(lead: Lead, place: usize, seen: Seen) -> u8
-    ensures { λ r. ⌜ r ≡ byteBy lead place seen ⌝ }
+fn byte_of(best: Best, place: usize, seen: Seen) -> u8
+    ensures { λ r. ⌜ r ≡ byteBy best place seen ⌝ }
 {
     if !seen.matches {
         return OTHER_KEY;
     }
-    if place == lead.place {
+    if place == best.place {
         return WON;
     }
-    let winner = lead.stamp;
+    let winner = best.stamp;
     let stamp = seen.stamp;
     reason(winner, stamp)
 }
 
 // Writes the byte of each delivery of a readable list to the front of `reasons`.
-pub(crate) fn write_reasons(list: &[u8], key: &[u8], lead: Lead, reasons: &mut [u8])
-    requires { ⌜ Readable (now list) × (length (entriesIn (now list)) ≤ length (now reasons)) × (lead ≡ leadOf (winner (now key) (entriesIn (now list)))) ⌝ }
+pub(crate) fn write_reasons(list: &[u8], key: &[u8], best: Best, reasons: &mut [u8])
+    requires { ⌜ Readable (now list) × (length (entriesIn (now list)) ≤ length (now reasons)) × (best ≡ bestOf (winner (now key) (entriesIn (now list)))) ⌝ }
     ensures { λ _. ⌜ now (reasons .exit) ≡ reported (now (key .entry)) (entriesIn (now (list .entry))) (now (reasons .entry)) ⌝ }
 {
     let mut at: usize = 0;
     let mut place: usize = 0;
     while at < list.len() {
-        let seen = look(&list[at..], key);
-        reasons[place] = byte_of(lead, place, seen);
+        let seen = peek(&list[at..], key);
+        reasons[place] = byte_of(best, place, seen);
         at += seen.end;
         place += 1;
     }

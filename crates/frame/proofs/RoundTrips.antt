@@ -102,7 +102,7 @@ module _ (s : List ℕ) (m : Message) where
   })
 
   module _ (h : readFrame s ≡ message m) where
-    read-holds : envelopeHolds s ≡ true
+    pub read-holds : envelopeHolds s ≡ true
     unfolding readFrame readAnswer
     read-holds = elim (test (envelopeHolds s)) [ inl p ↦ p | inr p ↦ no-message BadFrame (rw p at h) ]
 
@@ -146,10 +146,6 @@ read-lies-within s m h = elim (test (envelopeHolds s)) [
 ]
 
 -- ---- the reader that does not test the envelope
--- the message of a REPL frame was read from an envelope that holds, of TYPE 4
-pub read-envelope : (s : List ℕ) (m : Message) → readFrame s ≡ message m → envelopeHolds s ≡ true
-read-envelope = read-holds
-
 pub unchecked-reads-repl : UncheckedReadsRepl
 unfolding readAnswer typeOf
 unchecked-reads-repl s e h = rw (read-holds s (repl e) h, ← read-has-type s (repl e) h) refl

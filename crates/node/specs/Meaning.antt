@@ -59,7 +59,8 @@ abbrev pub NeverLosesOrLowers : Type 0
 NeverLosesOrLowers = (s s′ : List ℕ) (c d : Clock) (now : ℕ) (m m′ : Message) → sound s ≡ true → c .node < 2 ^ 8 → InRange m
     → serve s c now m ≡ done s′ d m′ → (sound s′ ≡ true) × ((h : Entry) → h ∈ entriesOf s → StillHeld h (entriesOf s′))
 
--- the bytes written by a call read as a message; a refusal has one of the numbers, and the message is its ERR (R30)
+-- the bytes written by a call read as a message; a refusal has a number, at most the last one, and
+-- the message is its ERR (R30)
 pub record ReadsBack (x : Result) : Type 0 where
   pub says : Message
   pub reads : readFrame (take (x .written) (x .reply)) ≡ message says

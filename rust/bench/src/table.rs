@@ -11,6 +11,13 @@ pub struct Row {
     pub reference: [Option<f64>; 3],
 }
 
+impl Row {
+    /// The time of all subjects together.
+    pub fn total(&self) -> f64 {
+        self.proved + self.reference.iter().flatten().sum::<f64>()
+    }
+}
+
 const WAYS: [&str; 3] = ["table", "wide tables", "CPU"];
 const NONE: &str = "–";
 

@@ -43,6 +43,17 @@ impl Args {
         }
     }
 
+    /// An option's file that is to be written.
+    pub fn output(&mut self, name: &str) -> Result<Option<OsString>, Failure> {
+        match self.option(name)? {
+            // Elsewhere it stands for standard input.
+            Some(path) if path == "-" => Err(failure(format!(
+                "{name} needs a file, not -; for a file of this name give ./-"
+            ))),
+            path => Ok(path),
+        }
+    }
+
     /// An option's number, or another one where it is not given.
     pub fn number<T: Number>(
         &mut self,
@@ -124,6 +135,33 @@ pub fn text(word: OsString) -> Result<String, Failure> {
     word.into_string().map_err(no_text)
 }
 
+/// A key as text, or in hexadecimal, maybe after `x` or `0x`.
+pub fn key(word: OsString, hex: bool) -> Result<Vec<u8>, Failure> {
+    let word = text(word)?;
+    if !hex {
+        return Ok(word.into_bytes());
+    }
+    let message = || {
+        failure(format!(
+            "KEY: '{word}' is no even number of hexadecimal digits"
+        ))
+    };
+    // The tool itself writes an x before the digits.
+    let digits = word.strip_prefix("0x").or(word.strip_prefix('x'));
+    bytes_of(digits.unwrap_or(&word)).ok_or_else(message)
+}
+
+/// The bytes of two hexadecimal digits each.
+fn bytes_of(digits: &str) -> Option<Vec<u8>> {
+    let digits = digits.chars().map(|digit| digit.to_digit(16));
+    let digits: Vec<u32> = digits.collect::<Option<_>>()?;
+    let (pairs, []) = digits.as_chunks() else {
+        return None;
+    };
+    let byte = |[high, low]: &[u32; 2]| (high * 16 + low) as u8;
+    Some(pairs.iter().map(byte).collect())
+}
+
 /// A type of whole numbers of at most 64 bits.
 pub trait Number: TryFrom<u64> + PartialOrd + Display {}
 impl<T: TryFrom<u64> + PartialOrd + Display> Number for T {}
@@ -203,5 +241,23 @@ mod tests {
             "too many words: 'c'"
         );
         assert_eq!(two(&["a", "--", "-b"]), Ok(["a".into(), "-b".into()]));
+        let output = |words: &[&str]| args(words).output("--out");
+        let dash = "--out needs a file, not -; for a file of this name give ./-";
+        assert_eq!(output(&["--out=-"]).unwrap_err().message, dash);
+        assert_eq!(output(&["--out", "./-"]), Ok(Some("./-".into())));
+    }
+
+    #[test]
+    fn keys_in_hexadecimal() {
+        let of = |word: &str| key(word.into(), true).map_err(|failure| failure.message);
+        for same in ["6b31", "x6B31", "0x6b31"] {
+            assert_eq!(of(same), Ok(b"k1".to_vec()));
+        }
+        assert_eq!(of("0x"), Ok(Vec::new()));
+        for wrong in ["6", "0x6", "xx6b", "6g", "x0x6b"] {
+            let told = format!("KEY: '{wrong}' is no even number of hexadecimal digits");
+            assert_eq!(of(wrong), Err(told));
+        }
+        assert_eq!(key("0x6b".into(), false), Ok(b"0x6b".to_vec()));
     }
 }

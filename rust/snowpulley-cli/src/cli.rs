@@ -7,7 +7,10 @@ use std::ffi::OsString;
 use std::fmt::Write;
 use std::process::ExitCode;
 
-/// The exit status of bad usage and of input that cannot be read.
+/// The tool's name and version.
+pub const VERSION: &str = concat!("snowpulley ", env!("CARGO_PKG_VERSION"));
+
+/// The exit status of bad usage and of files that cannot be used.
 pub const FAILED: u8 = 2;
 
 /// One command of the tool.
@@ -108,7 +111,8 @@ impl Command {
 
 const STATUSES: &str = "\
 Exit status: 0 a good answer; 1 a negative answer, such as a store that is not
-sound or too few owners; 2 bad usage, or input that cannot be read.
+sound or too few owners; 2 bad usage, or a file that cannot be opened, read or
+written.
 ";
 
 fn help() -> String {
@@ -121,5 +125,5 @@ fn help() -> String {
 }
 
 fn version() -> String {
-    format!("snowpulley {}\n", env!("CARGO_PKG_VERSION"))
+    format!("{VERSION}\n")
 }

@@ -2,7 +2,11 @@
 
 use crate::cli::{failure, Failure};
 use std::ffi::OsStr;
+use std::fs::{self, File, Metadata};
 use std::io::{self, Read};
+use std::os::fd::AsFd;
+use std::os::unix::fs::MetadataExt;
+use std::path::{Path, PathBuf};
 
 /// The bytes of a file, or of standard input for `-`.
 pub fn read(path: &OsStr) -> Result<Vec<u8>, Failure> {
@@ -10,24 +14,82 @@ pub fn read(path: &OsStr) -> Result<Vec<u8>, Failure> {
         let mut bytes = Vec::new();
         io::stdin().lock().read_to_end(&mut bytes).map(|_| bytes)
     } else {
-        std::fs::read(path)
+        fs::read(path)
     };
     bytes.map_err(|error| named(path, &error))
 }
 
-/// What a report calls the file that was read.
+/// What a report calls a file. The name is in quotes, so that it can be no
+/// control code, and a file is not taken for standard input.
 pub fn name(path: &OsStr) -> String {
     if path == "-" {
         "standard input".to_string()
     } else {
-        path.display().to_string()
+        format!("{path:?}")
     }
 }
 
 pub fn write(path: &OsStr, bytes: &[u8]) -> Result<(), Failure> {
-    std::fs::write(path, bytes).map_err(|error| named(path, &error))
+    fs::write(path, bytes).map_err(|error| named(path, &error))
 }
 
 fn named(path: &OsStr, error: &io::Error) -> Failure {
-    failure(format!("{}: {error}", path.display()))
+    failure(format!("{}: {error}", name(path)))
+}
+
+/// An output may not be the file that was read, or the file of another output:
+/// what is in it would be lost. To be asked before anything is written.
+pub fn keep_apart(input: &OsStr, outputs: &[Option<&OsStr>]) -> Result<(), Failure> {
+    let mut used = vec![(input, source(input))];
+    for output in outputs.iter().copied().flatten() {
+        let place = place(output);
+        let same = used
+            .iter()
+            .find(|(_, other)| place.is_some() && *other == place);
+        if let Some((other, _)) = same {
+            let (output, other) = (name(output), name(other));
+            return Err(failure(format!(
+                "{output} is the same file as {other}, which would be overwritten"
+            )));
+        }
+        used.push((output, place));
+    }
+    Ok(())
+}
+
+/// What a path leads to.
+#[derive(PartialEq, Eq)]
+enum Place {
+    /// A file's device and number there, the same by whatever path.
+    File(u64, u64),
+    /// Where a file would be made.
+    Free(PathBuf),
+}
+
+/// None where nothing can be overwritten, as at a device, or nothing written.
+fn place(path: &OsStr) -> Option<Place> {
+    if let Ok(metadata) = fs::metadata(path) {
+        return file(&metadata);
+    }
+    let path = Path::new(path);
+    let folder = match path.parent()? {
+        here if here.as_os_str().is_empty() => Path::new("."),
+        folder => folder,
+    };
+    let folder = folder.canonicalize().ok()?;
+    Some(Place::Free(folder.join(path.file_name()?)))
+}
+
+/// The same of an input: standard input may be a file as well.
+fn source(path: &OsStr) -> Option<Place> {
+    if path != "-" {
+        return place(path);
+    }
+    let stdin = io::stdin().as_fd().try_clone_to_owned().ok()?;
+    file(&File::from(stdin).metadata().ok()?)
+}
+
+fn file(metadata: &Metadata) -> Option<Place> {
+    let is_file = metadata.is_file();
+    is_file.then(|| Place::File(metadata.dev(), metadata.ino()))
 }

@@ -3,6 +3,7 @@
 mod common;
 
 use common::{file, here, run, run_with, temporary, Run};
+use reference::frame::sealed;
 use reference::store::{create, image_length, offer, value};
 use samples::script::{framed, put_message, record, repl_message, stamp};
 use support::Rng;
@@ -53,11 +54,71 @@ fn which_one_is_in_force_and_why_not_the_others() {
     assert!(full.out.contains(&"v".repeat(512)) && full.out.contains(&"c8".repeat(33)));
     let path = file("audit-list", &list());
     let named = run(&["audit".as_ref(), path.as_os_str(), "comp/scale-3".as_ref()]);
-    let shown = path.display().to_string();
+    let shown = format!("{path:?}");
     assert_eq!(
         named.out.replace(&shown, "standard input"),
         asked(&list(), &["comp/scale-3"]).out
     );
+}
+
+/// The latest time, long values of all kinds, and the longest outcomes.
+#[test]
+fn tables_have_at_most_120_columns() {
+    let last = (1 << 48) - 1;
+    let values: [&[u8]; 5] = [&[b'"'; 512], &[0; 512], &[b'v'; 512], &[b'"'; 13], &[0; 14]];
+    let frames = (0..).zip(values).map(|(node, value)| {
+        let at = (last, 65_535, node);
+        repl(KEY, at, Some(value))
+    });
+    let winner: Vec<u8> = frames.flatten().collect();
+    let two = [&b"1"[..], b"2"].map(|end| [&[b'v'; 511], end].concat());
+    let two = two.map(|value| repl(KEY, (last, 65_535, 255), Some(&value)));
+    let others = repl(b"other", (0, 0, 0), None).repeat(998);
+    for list in [winner, [others, two.concat()].concat()] {
+        let run = asked(&list, &["comp/scale-3"]);
+        let lines = run.lines().into_iter();
+        let table = lines.skip_while(|line| !line.starts_with("delivery  "));
+        let widest = table.map(str::len).max().unwrap();
+        assert!((119..=120).contains(&widest), "{}", run.out);
+    }
+}
+
+/// What a module wrote itself is not in the list, and the report says so.
+#[test]
+fn the_report_is_limited_to_the_list() {
+    let at = |minutes: u64| MORNING + minutes * 60_000;
+    let journal = [
+        record(at(0), &repl(KEY, (at(0), 0, 2), Some(b"+120"))),
+        record(at(1), &repl(KEY, (at(1), 0, 2), Some(b"+110"))),
+        record(at(2), &framed(&put_message(KEY, b"+95"))),
+    ];
+    let [list, store] = ["audit-limited", "audit-limited.store"].map(temporary);
+    let outputs = [&list, &store].map(|path| path.display().to_string());
+    let words = [
+        "replay",
+        "-",
+        "--deliveries",
+        &outputs[0],
+        "--store",
+        &outputs[1],
+    ];
+    run_with(&words, &journal.concat());
+    assert_eq!(value(&std::fs::read(store).unwrap(), KEY), b"+95");
+    let run = asked(&std::fs::read(list).unwrap(), &["comp/scale-3"]);
+    let lines = run.lines();
+    assert_eq!(
+        lines[0],
+        "Of the deliveries in this list, delivery 1 is in force for \"comp/scale-3\":"
+    );
+    assert!(lines[1].starts_with("\"+110\", stamped "));
+    let said = spaced(&run.out);
+    assert!(said.contains("- The module's own PUT and DEL (what was set or deleted on the module"));
+    assert!(said.contains("are not in the list. If one of them has a greater stamp, the module"));
+}
+
+/// The words of a text with one space between them.
+fn spaced(text: &str) -> String {
+    text.split_whitespace().collect::<Vec<_>>().join(" ")
 }
 
 #[test]
@@ -73,10 +134,10 @@ fn a_deletion_and_keys_that_are_not_in_the_list() {
 fn a_key_in_hexadecimal() {
     asked(&list(), &["--hex", "ff00"]).says(0, "audit-hex.txt");
     let out = asked(&list(), &["--hex", "ff00"]).out;
-    for same in ["xff00", "FF00"] {
+    for same in ["xff00", "FF00", "0xff00"] {
         assert_eq!(asked(&list(), &["--hex", same]).out, out);
     }
-    for wrong in ["ff0", "x", "0xff", "fg", "é"] {
+    for wrong in ["ff0", "x", "0x", "0xf", "fg", "é"] {
         let run = asked(&list(), &["--hex", wrong]);
         assert_eq!(run.status, 2, "{wrong}");
         assert!(run.err.starts_with("snowpulley: audit: "), "{run:?}");
@@ -105,7 +166,8 @@ fn two_that_have_one_stamp_and_differ() {
     frames.pop();
     frames.push(repl(KEY, (MORNING, 0, 1), None));
     let deleted = asked(&frames.concat(), &["comp/scale-3"]);
-    assert!(deleted.lines()[0].contains("and delivery 11 (deleted) have the same stamp"));
+    assert!(deleted.lines()[1].contains("and delivery 11 (deleted) have the same stamp"));
+    assert_eq!(deleted.out.matches("  not judged\n").count(), 6);
 }
 
 /// What follows two right deliveries, and what it is.
@@ -121,6 +183,10 @@ fn tails() -> Vec<(&'static str, Vec<u8>)> {
         ),
         ("LEN 5", vec![0, 5, 1, 2, 3, 4, 5]),
         ("a damaged frame", damaged),
+        (
+            "a frame with other FLAGS",
+            sealed(4, 1, &frame[4..frame.len() - 4]),
+        ),
         ("a PUT", framed(&put_message(KEY, b"v"))),
         ("a record of a journal", record(MORNING, &frame)),
     ]
@@ -129,23 +195,51 @@ fn tails() -> Vec<(&'static str, Vec<u8>)> {
 #[test]
 fn lists_that_cannot_be_read_are_told() {
     let mut text = String::new();
-    for (what, tail) in tails() {
-        let run = asked(
-            &[&frames()[..2].concat(), &tail[..]].concat(),
-            &["comp/scale-3"],
-        );
+    let mut tell = |what: &str, list: &[u8]| {
+        let run = asked(list, &["comp/scale-3"]);
         assert_eq!((run.status, run.err.as_str()), (1, ""), "{what}");
-        text += &format!("{what}:\n{}\n", run.lines()[0]);
+        let (answer, _) = run.out.split_once("\n\n").unwrap();
+        text += &format!("{what}:\n{answer}\n\n");
+    };
+    for (what, tail) in tails() {
+        tell(what, &[&frames()[..2].concat(), &tail[..]].concat());
     }
+    tell("one delivery, then one byte", &list()[..=frames()[0].len()]);
     let many = repl(KEY, (MORNING, 0, 1), None).repeat(1001);
-    let run = asked(&many, &["comp/scale-3"]);
-    text += &format!("1001 deliveries:\n{}\n", run.lines()[0]);
-    assert_eq!(
-        asked(&many[..many.len() / 1001 * 1000], &["comp/scale-3"]).status,
-        0
-    );
-    Run { out: text, ..run }.says(1, "audit-unreadable.txt");
+    tell("1001 deliveries", &many);
+    let (status, err) = (0, String::new());
+    Run {
+        status,
+        out: text,
+        err,
+    }
+    .says(0, "audit-unreadable.txt");
     asked(&list()[..100], &["comp/scale-3"]).says(1, "audit-cut.txt");
+    let most = asked(&many[..many.len() / 1001 * 1000], &["comp/scale-3"]);
+    assert_eq!(most.status, 0);
+}
+
+/// A journal is asked about, whether its first time looks like a LEN or not.
+#[test]
+fn a_journal_given_as_a_list_is_asked_about() {
+    let records = |time: u64| {
+        frames()
+            .iter()
+            .flat_map(|frame| record(time, frame))
+            .collect()
+    };
+    let hint = "\nIs this a journal? See snowpulley replay --deliveries.\n\n";
+    for time in [0, MORNING, 4 * MORNING] {
+        let journal: Vec<u8> = records(time);
+        for journal in [&journal[..], &journal[..60]] {
+            let run = asked(journal, &["comp/scale-3"]);
+            assert!(run.status == 1 && run.out.contains(hint), "{run:?}");
+        }
+    }
+    let mut damaged = frames()[0].clone();
+    damaged[20] ^= 1;
+    let run = asked(&damaged, &["comp/scale-3"]);
+    assert!(run.status == 1 && !run.out.contains("journal?"), "{run:?}");
 }
 
 /// The page that a run writes.
@@ -178,13 +272,22 @@ fn is_a_page(html: &str) {
     }
 }
 
+/// A page without the version of the tool.
+fn unversioned(html: &str) -> String {
+    let made = concat!("<p>Made by snowpulley ", env!("CARGO_PKG_VERSION"), ".</p>");
+    assert!(html.contains(made));
+    html.replace(made, "<p>Made by snowpulley VERSION.</p>")
+}
+
 #[test]
 fn the_page() {
     let html = page("audit.html", &list(), &["comp/scale-3"]);
     is_a_page(&html);
     let (status, err) = (0, String::new());
-    let out = html.clone();
+    let out = unversioned(&html);
     Run { status, out, err }.says(0, "audit.html");
+    let (_, body) = html.split_once("<body>").unwrap();
+    assert!(body.contains(", 934 bytes, checksum CRC32C 0xdad0746d<"));
     assert!(html.contains("&lt;b&gt;-8C +90 &amp; more&lt;/b&gt;  later"));
     assert!(html.contains(&"c8".repeat(33)));
     let all = page("audit-all.html", &list(), &["comp/scale-3", "--all"]);
@@ -192,23 +295,26 @@ fn the_page() {
     assert!(all.contains(&"v".repeat(512)) && all.contains("<td>xff00</td>"));
 }
 
-/// The page has what the text has.
+/// The page has what the text has, but for the marks before lines; what is
+/// proved it says in more words.
 #[test]
 fn the_page_and_the_text_say_the_same() {
     let cut = &list()[..100];
-    let lists = [&list()[..], &[], cut];
+    let conflict = conflicting().concat();
+    let lists = [&list()[..], &[], cut, &conflict];
     for (number, list) in lists.into_iter().enumerate() {
         for key in ["comp/scale-3", "test-load", "<none> & \"such\""] {
             let words = [key, "--full"];
             let html = page(&format!("audit-same-{number}"), list, &words);
             is_a_page(&html);
-            let text = asked(list, &words);
-            let texts = text.lines().into_iter().flat_map(|line| line.split("  "));
-            for part in texts.map(str::trim) {
-                let part = part
-                    .replace('&', "&amp;")
-                    .replace('<', "&lt;")
-                    .replace('>', "&gt;");
+            let (html, text) = (spaced(&html), asked(list, &words));
+            let (before, proved) = text.out.split_once("\nProved: ").unwrap();
+            let (_, limits) = proved.split_once("\n\n").unwrap();
+            let texts = before.lines().chain(limits.lines());
+            for part in texts.flat_map(|line| line.split("  ")) {
+                let part = part.trim_start_matches("- ").trim_end_matches(':');
+                let part = part.replace('&', "&amp;").replace('<', "&lt;");
+                let part = spaced(&part.replace('>', "&gt;"));
                 assert!(html.contains(&part), "{part}");
             }
         }
@@ -237,7 +343,7 @@ fn answers() -> [(Vec<u8>, &'static str, &'static [&'static str]); 4] {
         (
             list()[..100].to_vec(),
             "comp/scale-3",
-            &["explain", "report-refused"],
+            &["explain", "report-refused", "readable-exactly"],
         ),
     ]
 }
@@ -262,7 +368,7 @@ fn the_document_has_what_each_page_names() {
         }
     }
     let (status, err) = (0, String::new());
-    let out = feet;
+    let out = unversioned(&feet);
     Run { status, out, err }.says(0, "audit-feet.html");
 }
 
@@ -278,6 +384,8 @@ fn bad_usage_is_told() {
     assert!(reserved.err.starts_with(told), "{reserved:?}");
     // The list is looked at before the key.
     assert_eq!(asked(&list()[1..], &["_sys:a"]).status, 1);
+    let dash = "audit: --html needs a file, not -; for a file of this name give ./-";
+    run(&["audit", "-", "k", "--html", "-"]).fails(dash);
     let nowhere = temporary("no-such-folder").join("page.html");
     let run = asked(&list(), &["k", "--html", nowhere.to_str().unwrap()]);
     assert_eq!(run.status, 2);
@@ -305,10 +413,10 @@ fn the_one_in_force_is_the_one_that_the_reference_holds() {
         }
         let held = String::from_utf8(value(&image, b"k").to_vec()).unwrap();
         let run = asked(&list, &["k"]);
-        let named = format!(" is in force for \"k\": \"{held}\", stamped ");
+        let named = format!(" is in force for \"k\":\n\"{held}\", stamped ");
         let never = run.lines()[0] == "The list has no delivery of \"k\".";
         assert!(
-            run.lines()[0].contains(&named) || never && held.is_empty(),
+            run.out.contains(&named) || never && held.is_empty(),
             "{run:?}"
         );
         assert_eq!(run.status, i32::from(never));
@@ -326,7 +434,7 @@ fn any_bytes_can_be_audited() {
         for bytes in [damaged, rng.bytes(1 + number * 9)] {
             let run = asked(&bytes, &["comp/scale-3", "--all"]);
             assert_eq!((run.status, run.err.as_str()), (1, ""));
-            assert!(run.lines()[0].contains("cannot be read"), "{run:?}");
+            assert!(run.lines()[1].contains("cannot be read"), "{run:?}");
             assert!(!run.out.chars().any(|c| c.is_control() && c != '\n'));
         }
     }

@@ -90,45 +90,89 @@ fn the_replies_are_the_references() {
 }
 
 /// A run that writes the deliveries of a journal, and what it writes.
-fn delivered(name: &str, journal: &[u8]) -> (Run, Vec<u8>) {
+fn delivered(name: &str, journal: &[u8], words: &[&str]) -> (Run, Vec<u8>) {
     let path = temporary(name);
     let option = format!("--deliveries={}", path.display());
-    let run = run_with(&["replay", "-", &option], journal);
+    let run = run_with(&[&["replay", "-", &option], words].concat(), journal);
     (run, std::fs::read(path).unwrap())
+}
+
+fn repl(key: &[u8], phys: u64, logical: u16, value: Option<&[u8]>) -> Vec<u8> {
+    framed(&repl_message(key, stamp(phys, logical, 7), value))
+}
+
+/// Deliveries that are answered OK and one that is refused, of two keys, and
+/// what is no delivery.
+fn with_deliveries() -> Vec<u8> {
+    let key = b"lamp".to_vec();
+    let records = [
+        record(10, &framed(&put_message(b"lamp", b"on"))),
+        record(11, &repl(b"lamp", 9, 8, Some(b"off"))),
+        record(12, &repl(b"lamp", 12, 65_535, None)),
+        record(13, &[0, 6, 99, 0, 1, 2, 3, 4]),
+        record(14, &framed(&Message::Get { key: key.clone() })),
+        record(15, &repl(&[0xFF], 8, 8, None)),
+        record(16, &repl(b"lamp", 8, 8, None)),
+        record(17, &framed(&Message::Del { key })),
+        record(18, &framed(&put_message(b"other", b"on"))),
+    ];
+    records.concat()
+}
+
+/// What stands in a report after the line with the number of records.
+fn note(run: &Run) -> String {
+    let lines = run.lines().into_iter();
+    let note = lines.skip_while(|line| !line.starts_with("records: "));
+    note.skip(1).map(|line| format!("{line}\n")).collect()
 }
 
 #[test]
 fn the_deliveries_are_the_repl_frames_that_were_answered_ok() {
-    let (key, repl) = (b"lamp".to_vec(), |phys, logical, value| {
-        framed(&repl_message(b"lamp", stamp(phys, logical, 7), value))
-    });
-    let [first, second] = [repl(9, 8, Some(&b"off"[..])), repl(8, 8, None)];
-    let records = [
-        record(10, &framed(&put_message(b"lamp", b"on"))),
-        record(11, &first),
-        record(12, &repl(12, 65_535, None)),
-        record(13, &[0, 6, 99, 0, 1, 2, 3, 4]),
-        record(14, &framed(&Message::Get { key: key.clone() })),
-        record(15, &second),
-        record(16, &framed(&Message::Del { key })),
-    ];
-    let (run, list) = delivered("replay-delivered", &records.concat());
-    assert!(list == [first, second].concat());
-    let note = "deliveries written: 2; PUT and DEL that are not in the list: 2";
-    assert_eq!((run.status, run.lines().last()), (0, Some(&note)));
+    let (all, list) = delivered("replay-delivered", &with_deliveries(), &[]);
+    let (first, last) = (repl(b"lamp", 9, 8, Some(b"off")), repl(b"lamp", 8, 8, None));
+    let other = repl(&[0xFF], 8, 8, None);
+    assert!(list == [&first[..], &other, &last].concat());
     let audit = run_with(&["audit", "-", "lamp"], &list);
     assert!(audit
         .out
-        .starts_with("Delivery 0 is in force for \"lamp\": \"off\", "));
+        .contains("delivery 0 is in force for \"lamp\":\n\"off\", "));
+    let (lamp, list) = delivered("replay-of-lamp", &with_deliveries(), &["--key", "lamp"]);
+    assert!(list == [first, last].concat());
+    let words = ["--hex", "--key=0xff"];
+    let (hex, list) = delivered("replay-of-hex", &with_deliveries(), &words);
+    assert!(list == other);
+    assert_eq!([all.status, lamp.status, hex.status], [0; 3]);
+    let (status, err) = (0, String::new());
+    let out = [all, lamp, hex].map(|run| note(&run)).join("\n");
+    Run { status, out, err }.says(0, "replay-deliveries.txt");
 }
 
 #[test]
 fn more_deliveries_than_an_audit_takes_are_told() {
-    let repl = framed(&repl_message(b"lamp", stamp(9, 8, 7), None));
-    let (run, list) = delivered("replay-many", &record(10, &repl).repeat(1001));
+    let repl = repl(b"lamp", 9, 8, None);
+    let (run, list) = delivered("replay-many", &record(10, &repl).repeat(1001), &[]);
     assert!(list == repl.repeat(1001));
-    let note = "deliveries written: 1001, more than the 1000 that an audit takes; ";
-    assert!(run.lines().last().unwrap().starts_with(note));
+    let told = "snowpulley audit takes at most 1000 deliveries";
+    let named = format!("{told}; --key KEY writes those of one key");
+    assert_eq!(run.lines().last(), Some(&named.as_str()));
+    let key = ["--key", "lamp"];
+    let (run, _) = delivered("replay-many", &record(10, &repl).repeat(1001), &key);
+    assert_eq!(run.lines().last(), Some(&told));
+    let (run, _) = delivered("replay-many", &record(10, &repl).repeat(1000), &[]);
+    assert!(!run.out.contains(told));
+}
+
+/// Of a journal with too many deliveries each key can still be audited.
+#[test]
+fn one_key_of_many_deliveries_can_be_audited() {
+    let lamp = |phys| record(10, &repl(b"lamp", phys, 0, Some(b"on")));
+    let others = record(10, &repl(b"other", 9, 8, None)).repeat(1200);
+    let journal = [lamp(3), others, lamp(4), lamp(2)].concat();
+    let (_, all) = delivered("replay-too-many", &journal, &[]);
+    assert_eq!(run_with(&["audit", "-", "lamp"], &all).status, 1);
+    let (_, list) = delivered("replay-few", &journal, &["--key", "lamp"]);
+    let audit = run_with(&["audit", "-", "lamp"], &list);
+    assert!(audit.status == 0 && audit.out.contains("delivery 1 is in force"));
 }
 
 #[test]

@@ -1,11 +1,13 @@
 /* Modules of a site: settings are written on module 1, the owners of one are named, the entries
- * are listed and sent to module 2, and its store is merged into a spare one. C99, and C++11. */
+ * are listed and sent to module 2, its store is merged into a spare one, and of what was sent to it
+ * a report says which delivery of a key is in force. C99, and C++11. */
 #include <stdio.h>
 #include <string.h>
 
 #include "snowpulley.h"
 
 #define SLOTS 8
+#define LIST_BYTES 4096 /* for the frames that a module keeps for a report */
 #define VNODES 16
 #define SALT 0xA5A5A5A5u                /* one for the whole site */
 #define MORNING UINT64_C(1736836800000) /* in ms since 1970: 14 January 2025, 06:40 UTC */
@@ -14,6 +16,8 @@ typedef struct {
     uint8_t id;
     uint64_t clock[SP_CLOCK_WORDS];
     uint8_t store[SP_STORE_BYTES(SLOTS)];
+    uint8_t list[LIST_BYTES]; /* the REPL frames that it answered with OK */
+    size_t list_len;
 } module;
 
 static module one, two;
@@ -31,6 +35,7 @@ static int refused(const char *call, sp_result r) {
 
 static void create(module *m, uint8_t id) {
     m->id = id;
+    m->list_len = 0;
     refused("sp_clock_fresh", sp_clock_fresh(id, m->clock, SP_CLOCK_WORDS));
     refused("sp_store_create", sp_store_create(m->store, sizeof m->store, SLOTS));
 }
@@ -59,12 +64,13 @@ static void print_reply(const uint8_t *reply, size_t reply_len) {
     }
 }
 
-/* Hands a module a frame, with what its writer answered, and prints the reply. */
-static void request(module *to, uint64_t now, const uint8_t *frame, sp_result written) {
+/* Hands a module a frame, with what its writer answered, and prints the reply. 1 if the request
+ * was served, else 0. */
+static int request(module *to, uint64_t now, const uint8_t *frame, sp_result written) {
     uint8_t reply[SP_FRAME_MAX];
     sp_result r;
     if (refused("no frame", written)) {
-        return;
+        return 0;
     }
     r = sp_handle(to->store, sizeof to->store, to->clock, SP_CLOCK_WORDS, now, frame,
                   SP_ANSWER(written), reply, sizeof reply);
@@ -74,6 +80,7 @@ static void request(module *to, uint64_t now, const uint8_t *frame, sp_result wr
     } else {
         print_reply(reply, SP_ANSWER(r));
     }
+    return !SP_IS_REFUSED(r);
 }
 
 static void put(module *to, uint64_t now, const char *key, const char *value) {
@@ -127,13 +134,25 @@ static void print_owners(uint64_t now, const char *key) {
 
 /* ---- Listing a store */
 
-/* Sends the entry with these fields to a module, as a REPL frame. */
+/* Puts a frame at the end of a module's list. */
+static void keep(module *m, const uint8_t *frame, size_t frame_len) {
+    if (frame_len > sizeof m->list - m->list_len) {
+        printf("module %u: the list is full\n", m->id);
+        return;
+    }
+    memcpy(m->list + m->list_len, frame, frame_len);
+    m->list_len += frame_len;
+}
+
+/* Sends the entry with these fields to a module, as a REPL frame. The module keeps the frame if it
+ * answers with OK. */
 static void send_entry(module *to, uint64_t now, const uint8_t *store, const uint64_t *fields) {
     const uint8_t *key = store + fields[SP_FIELD_KEY_AT];
     const uint8_t *value = store + fields[SP_FIELD_VALUE_AT];
     size_t key_len = (size_t)fields[SP_FIELD_KEY_LEN];
     size_t value_len = (size_t)fields[SP_FIELD_VALUE_LEN];
     uint8_t frame[SP_FRAME_MAX];
+    sp_result written;
     printf("module %u, REPL %.*s ", to->id, (int)key_len, (const char *)key);
     if (fields[SP_FIELD_FLAG] == SP_FLAG_TOMBSTONE) {
         printf("deleted");
@@ -142,10 +161,12 @@ static void send_entry(module *to, uint64_t now, const uint8_t *store, const uin
     }
     printf(" at (%llu, %u, %u): ", (unsigned long long)fields[SP_FIELD_PHYS],
            (unsigned)fields[SP_FIELD_LOGICAL], (unsigned)fields[SP_FIELD_NODE]);
-    request(to, now, frame,
-            sp_write_repl(key, key_len, value, value_len, (uint32_t)fields[SP_FIELD_FLAG],
-                          fields[SP_FIELD_PHYS], (uint16_t)fields[SP_FIELD_LOGICAL],
-                          (uint8_t)fields[SP_FIELD_NODE], frame, sizeof frame));
+    written = sp_write_repl(key, key_len, value, value_len, (uint32_t)fields[SP_FIELD_FLAG],
+                            fields[SP_FIELD_PHYS], (uint16_t)fields[SP_FIELD_LOGICAL],
+                            (uint8_t)fields[SP_FIELD_NODE], frame, sizeof frame);
+    if (request(to, now, frame, written)) {
+        keep(to, frame, SP_ANSWER(written));
+    }
 }
 
 static void send_all(const module *from, module *to, uint64_t now) {
@@ -186,6 +207,63 @@ static void print_lookup(const char *key) {
     }
 }
 
+/* ---- The report */
+
+static const char *reason_text(uint8_t reason) {
+    switch (reason) {
+    case SP_WON: return "won";
+    case SP_EARLIER_TIME: return "earlier time";
+    case SP_LOWER_COUNT: return "same time, lower count";
+    case SP_LOWER_NODE: return "same time and count, lower node id";
+    case SP_SAME_ENTRY: return "the same entry again";
+    case SP_OTHER_KEY: return "another key";
+    default: return "unknown";
+    }
+}
+
+/* Prints what sp_explain answered; 1 if it named a winner, else 0. */
+static int print_explained(sp_explained r) {
+    if (SP_EXPLAINED_REFUSAL(r) == SP_CONFLICT) {
+        printf("deliveries %u and %u have one stamp and differ\n", SP_EXPLAINED_EARLIER(r),
+               SP_EXPLAINED_LATER(r));
+    } else if (SP_EXPLAINED_IS_REFUSED(r)) {
+        printf("refused with %s\n", sp_refusal_name(SP_EXPLAINED_REFUSAL(r)));
+    } else if (SP_EXPLAINED_WINNER(r) == SP_NO_DELIVERY) {
+        printf("never delivered\n");
+    } else {
+        printf("delivery %u is in force\n", SP_EXPLAINED_WINNER(r));
+        return 1;
+    }
+    return 0;
+}
+
+/* Which delivery of a key in a module's list is in force, and why not the others? */
+static void print_report(const module *m, const char *key) {
+    static uint8_t reasons[SP_DELIVERIES_MAX];
+    sp_result count = sp_deliveries(m->list, m->list_len);
+    sp_explained r = sp_explain(m->list, m->list_len, bytes(key), strlen(key), reasons,
+                                sizeof reasons);
+    uint32_t i;
+    printf("module %u, report on %s: ", m->id, key);
+    if (!print_explained(r)) {
+        return;
+    }
+    for (i = 0; i < SP_ANSWER(count); i++) {
+        printf("  delivery %u: %s\n", i, reason_text(reasons[i]));
+    }
+}
+
+/* On what module 2 was sent, and again after module 1 has given a stamp twice. */
+static void print_reports(void) {
+    print_report(&two, "comp/scale-3");
+    print_report(&two, "test-load");
+    print_report(&two, "comp/scale-9");
+    create(&one, 1); /* its clock starts anew */
+    put(&one, MORNING, "comp/scale-3", "+130 ppm");
+    send_all(&one, &two, MORNING + 10);
+    print_report(&two, "comp/scale-3");
+}
+
 int main(void) {
     create(&one, 1);
     create(&two, 2);
@@ -199,6 +277,8 @@ int main(void) {
     send_all(&one, &two, MORNING + 5);
     get(&two, MORNING + 6, "comp/scale-3");
     get(&two, MORNING + 7, "test-load");
+    put(&one, MORNING + 8, "comp/scale-3", "+95 ppm");
+    send_all(&one, &two, MORNING + 9);
 
     refused("sp_store_create", sp_store_create(spare, sizeof spare, SLOTS));
     refused("sp_store_merge", sp_store_merge(spare, sizeof spare, two.store, sizeof two.store));
@@ -212,5 +292,6 @@ int main(void) {
 
     spare[100] ^= 1; /* as worn flash may do */
     print_lookup("comp/scale-3");
+    print_reports();
     return 0;
 }

@@ -15,10 +15,27 @@ module 2, REPL comp/scale-3 = +120 ppm at (1736836800000, 0, 1): OK
 module 2, REPL test-load deleted at (1736836800003, 0, 1): OK
 module 2, GET comp/scale-3: VALUE +120 ppm
 module 2, GET test-load: NOTFOUND
-spare store: comp/scale-3 = +120 ppm
+module 1, PUT comp/scale-3 = +95 ppm: OK
+module 2, REPL comp/scale-3 = +95 ppm at (1736836800008, 0, 1): OK
+module 2, REPL test-load deleted at (1736836800003, 0, 1): OK
+spare store: comp/scale-3 = +95 ppm
 spare store: test-load was deleted
 spare store: comp/scale-9 was never seen
 sp_store_lookup: refused with BAD_STORE
+module 2, report on comp/scale-3: delivery 2 is in force
+  delivery 0: earlier time
+  delivery 1: another key
+  delivery 2: won
+  delivery 3: another key
+module 2, report on test-load: delivery 1 is in force
+  delivery 0: another key
+  delivery 1: won
+  delivery 2: another key
+  delivery 3: the same entry again
+module 2, report on comp/scale-9: never delivered
+module 1, PUT comp/scale-3 = +130 ppm: OK
+module 2, REPL comp/scale-3 = +130 ppm at (1736836800000, 0, 1): OK
+module 2, report on comp/scale-3: deliveries 0 and 4 have one stamp and differ
 ";
 
 #[test]

@@ -32,7 +32,22 @@ pub enum Explained {
 
 /// Names the winner among the deliveries of a key. The front of `reasons` gets
 /// the byte of a `Reason` for each delivery of the list; a refusal and a
-/// conflict leave it.
+/// conflict leave it. `DELIVERIES_MAX` bytes are always enough.
+///
+/// ```
+/// use snowpulley::{explain, Content, Entry, Explained, Message, Reason, Refusal, Stamp};
+///
+/// let key = b"comp/scale-3";
+/// let frame = |value, phys| {
+///     let (content, stamp) = (Content::Active(value), Stamp { phys, logical: 0, node: 1 });
+///     Message::Repl(Entry { key, content, stamp }).frame()
+/// };
+/// let list = [frame(b"+120 ppm", 1)?, frame(b"+95 ppm", 2)?].concat();
+/// let mut reasons = [0; 2];
+/// assert_eq!(explain(&list, key, &mut reasons), Explained::Winner(1));
+/// assert_eq!(reasons.map(Reason::of), [Some(Reason::EarlierTime), Some(Reason::Won)]);
+/// # Ok::<(), Refusal>(())
+/// ```
 pub fn explain(list: &[u8], key: &[u8], reasons: &mut [u8]) -> Explained {
     let word = raw::explain(list, key, reasons);
     taken_apart(word).unwrap_or_else(|| panic!("an answer of the header, not {word:#x}"))

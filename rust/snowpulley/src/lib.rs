@@ -2,7 +2,9 @@
 //!
 //! `raw` has every function of the header over plain slices. The other
 //! modules give them types: a clock, a peer table and the answers as Rust
-//! values, and a refusal as an error.
+//! values, and a refusal as an error. `handler::handle` and `audit::explain`
+//! return a refusal as a part of their answer, since more can come with it: an
+//! ERR frame, or two places.
 
 pub mod audit;
 pub mod checksum;

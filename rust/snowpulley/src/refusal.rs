@@ -38,7 +38,8 @@ macro_rules! refusals {
 
 refusals! {
     BadKey = SP_BAD_KEY:
-        "a key of 0 or more than 64 bytes, or one that begins with _sys:, _ring:, _hint: or _gossip:";
+        "a key of 0 or more than 64 bytes, or one that begins with _sys:, _ring:, _hint: or \
+         _gossip:";
     ValueTooLarge = SP_VALUE_TOO_LARGE:
         "a value of more than 512 bytes";
     BadFrame = SP_BAD_FRAME:

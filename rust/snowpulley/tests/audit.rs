@@ -5,6 +5,7 @@ use snowpulley::audit::{
 };
 use snowpulley::checksum::crc32c;
 use snowpulley::{Content, Entry, Message, Refusal, Stamp};
+use snowpulley_sys::{SP_KEY_MAX, SP_VALUE_MAX};
 
 const KEY: &[u8] = b"comp/scale-3";
 
@@ -166,14 +167,17 @@ fn the_first_delivery_that_cannot_be_read() {
     assert_eq!(fault(&ok), Fault::NoRepl(Message::Ok));
 }
 
+/// The longest list, as the header gives its length.
 #[test]
 fn no_more_deliveries_than_a_list_may_have() {
-    let frame = list(&entries()[..1]);
+    let (key, value) = ([b'k'; SP_KEY_MAX], [b'v'; SP_VALUE_MAX]);
+    let frame = list(&[entry(&key, &value, (6, 9, 9))]);
     let most = frame.repeat(DELIVERIES_MAX);
+    assert_eq!((frame.len(), most.len()), (597, 597_000));
     assert_eq!(deliveries(&most), Ok(DELIVERIES_MAX));
     assert_eq!(read(&most).map(|all| all.len()), Ok(DELIVERIES_MAX));
     let mut reasons = [77; DELIVERIES_MAX];
-    assert_eq!(explain(&most, KEY, &mut reasons), Explained::Winner(0));
+    assert_eq!(explain(&most, &key, &mut reasons), Explained::Winner(0));
     assert!(reasons[0] == 0 && reasons[1..].iter().all(|byte| *byte == 4));
     let (place, at) = (DELIVERIES_MAX, most.len());
     let more = [most, frame].concat();

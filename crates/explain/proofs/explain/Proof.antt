@@ -33,7 +33,8 @@ returns c =
 abbrev start : tie.After-known-told → tie.Start
 start c = c .before .before .before .before .before .before .before
 
-listed : (c : tie.After-known-told) → Readable (start c .args .deliveries .now) × (c .before .counted .given .0 .0 ≡ length (entriesIn (start c .args .deliveries .now)))
+listed : (c : tie.After-known-told) → let list = start c .args .deliveries .now in
+    Readable list × (c .before .counted .given .0 .0 ≡ length (entriesIn list))
 listed c = count-readable (start c .args .deliveries .now) _ _ (c .before .before .before .count .ensures) (c .before .counted .given .1)
 
 good-key : (c : tie.Else1) → badKey (start (c .before .before) .args .key .now) ≡ false

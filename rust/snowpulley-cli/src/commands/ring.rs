@@ -29,7 +29,7 @@ TOO_FEW is a negative answer.
 
 fn run(mut args: Args) -> Outcome {
     let cluster = Cluster::of(Site::from_args(&mut args)?)?;
-    let (svg, places) = (args.option("--svg")?, args.flag("--places"));
+    let (svg, places) = (args.output("--svg")?, args.flag("--places"));
     let walks = owners::walks(&cluster, args)?;
     if let Some(path) = svg {
         files::write(&path, picture::drawn(&cluster, &walks).as_bytes())?;

@@ -15,6 +15,18 @@ pub fn shown(bytes: &[u8], limit: usize) -> String {
     format!("{text:?}{}", length_note(bytes, limit))
 }
 
+/// All of the bytes if they fit in so many columns, else as many as do.
+pub fn fitting(bytes: &[u8], width: usize) -> String {
+    let all = shown(bytes, usize::MAX);
+    if all.len() <= width {
+        return all;
+    }
+    let limits = (0..bytes.len().min(width)).rev();
+    let mut cut = limits.map(|limit| shown(bytes, limit));
+    let found = cut.find(|text| text.len() <= width);
+    found.unwrap_or_else(|| shown(bytes, 0))
+}
+
 pub fn hex(bytes: &[u8], limit: usize) -> String {
     let shown = bytes.iter().take(limit);
     let digits: String = shown.map(|byte| format!("{byte:02x}")).collect();
@@ -51,5 +63,15 @@ mod tests {
         assert_eq!(shown(b"abc", 3), "\"abc\"");
         assert_eq!(shown(b"abcdef", 3), "\"abc\"... (6 bytes)");
         assert_eq!(shown(&[0; 5], 3), "x000000... (5 bytes)");
+    }
+
+    #[test]
+    fn as_much_as_fits() {
+        assert_eq!(fitting(b"abcdef", 8), "\"abcdef\"");
+        assert_eq!(fitting(&[b'a'; 20], 18), "\"aa\"... (20 bytes)");
+        assert_eq!(fitting(&[b'"'; 20], 18), "\"\\\"\"... (20 bytes)");
+        assert_eq!(fitting(&[0; 20], 18), "x00... (20 bytes)");
+        assert_eq!(fitting(&[0; 20], 19), "x0000... (20 bytes)");
+        assert_eq!(fitting(&[0; 20], 2), "x... (20 bytes)");
     }
 }

@@ -1,4 +1,4 @@
-//! Bytes, times, messages and tables for people to read.
+//! Bytes, times, messages, tables and sentences for people to read.
 
 pub mod bytes;
 pub mod entries;
@@ -6,3 +6,4 @@ pub mod markup;
 pub mod message;
 pub mod table;
 pub mod time;
+pub mod wrap;

@@ -22,32 +22,32 @@ loop-holds c =
     let start = c .before .before .before .before .before in
     (stands-first (start .args .list .now) (start .pre .0), refl, refl, refl, kept-first (start .args .list .now) (start .args .key .now) _ _ _)
 
-sub-look : tie.Need-sub-look Inv-loop μ-loop
-sub-look c = search needs
+sub-peek : tie.Need-sub-peek Inv-loop μ-loop
+sub-peek c = search needs
 
-part-look-start : tie.Need-part-look-start Inv-loop μ-loop
-part-look-start c = search needs
+part-peek-start : tie.Need-part-peek-start Inv-loop μ-loop
+part-peek-start c = search needs
 
-part-look-end : tie.Need-part-look-end Inv-loop μ-loop
-part-look-end c = search needs
+part-peek-end : tie.Need-part-peek-end Inv-loop μ-loop
+part-peek-end c = search needs
 
-look-requires : tie.Need-look-requires Inv-loop μ-loop
-look-requires c κs = search needs
+peek-requires : tie.Need-peek-requires Inv-loop μ-loop
+peek-requires c κs = search needs
 
 -- the delivery that a turn meets
-abbrev begun : tie.After-look Inv-loop μ-loop → tie.Start Inv-loop μ-loop
+abbrev begun : tie.After-peek Inv-loop μ-loop → tie.Start Inv-loop μ-loop
 begun c = c .before .before .before .before .before .before .before .before .before
 
-met : (c : tie.After-look Inv-loop μ-loop) → let l = c .before .before .before .loop in
-    Step (begun c .args .list .now) (begun c .args .key .now) (entriesIn (begun c .args .list .now)) (l .at) (l .i) (c .look .result)
-met c = let t = c .before .before in step (t .before .loop .inv .0) (t .loop-test .taken) _ _ (c .look .ensures .0)
+met : (c : tie.After-peek Inv-loop μ-loop) → let l = c .before .before .before .loop in
+    Step (begun c .args .list .now) (begun c .args .key .now) (entriesIn (begun c .args .list .now)) (l .at) (l .i) (c .peek .result)
+met c = let t = c .before .before in step (t .before .loop .inv .0) (t .loop-test .taken) _ _ (c .peek .ensures .0)
 
 -- the place is one of 1,000
-place : (c : tie.After-look Inv-loop μ-loop) → c .before .before .before .loop .i < 1000
+place : (c : tie.After-peek Inv-loop μ-loop) → c .before .before .before .loop .i < 1000
 place c = omega (arith, met c .more, most (begun c .args .list .now) (begun c .pre .0))
 
 -- each array has it
-room : (c : tie.After-look Inv-loop μ-loop) → (c .before .before .before .loop .i < length (c .before .before .before .loop .times))
+room : (c : tie.After-peek Inv-loop μ-loop) → (c .before .before .before .loop .i < length (c .before .before .before .loop .times))
     × (c .before .before .before .loop .i < length (c .before .before .before .loop .marks))
     × (c .before .before .before .loop .i < length (c .before .before .before .loop .starts))
 room c =
@@ -95,14 +95,14 @@ loop-less c = let t = met (c .before .before) in omega (arith, t .some-bytes, t 
 
 loop-again : tie.Need-loop-again Inv-loop μ-loop
 loop-again c =
-    let look = c .before .before in
-    let inv = look .before .before .before .loop .inv in
-    let r = room look in (
-      met look .next,
+    let peek = c .before .before in
+    let inv = peek .before .before .before .loop .inv in
+    let r = room peek in (
+      met peek .next,
       simp length-set (inv .1),
       simp length-set (inv .2),
       simp length-set (inv .3),
-      kept-next _ _ _ _ _ _ _ (look .look .result) (met look) _ (c .before .mark-of .ensures) (r .0) (r .1) (r .2) (inv .4),
+      kept-next _ _ _ _ _ _ _ (peek .peek .result) (met peek) _ (c .before .mark-of .ensures) (r .0) (r .1) (r .2) (inv .4),
     )
 
 same-length : tie.Need-same-length Inv-loop μ-loop
@@ -124,10 +124,10 @@ keep-marks-spec =
     Inv-loop
     μ-loop
     loop-holds
-    sub-look
-    part-look-start
-    part-look-end
-    look-requires
+    sub-peek
+    part-peek-start
+    part-peek-end
+    peek-requires
     mul-times
     slice-write-times
     mark-of-requires

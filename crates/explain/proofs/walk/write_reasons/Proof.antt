@@ -12,38 +12,38 @@ use Rattle.explain.proofs.walk.write_reasons.Statement.{statement}
 use Rattle.explain.proofs.walk.write_reasons.Tie as tie
 
 abbrev Inv-loop : tie.InvT-loop
-Inv-loop list key lead reasons₀ at₀ place₀ reasons at place =
+Inv-loop list key best reasons₀ at₀ place₀ reasons at place =
     Stands list (entriesIn list) at place × (length reasons ≡ length reasons₀)
     × (reasons ≡ take place (reasonsFor key (entriesIn list) (winner key (entriesIn list))) ++ drop place reasons₀)
 
 abbrev μ-loop : tie.MeasureT-loop
-μ-loop list key lead reasons₀ at₀ place₀ reasons at place = length list - at
+μ-loop list key best reasons₀ at₀ place₀ reasons at place = length list - at
 
 loop-holds : tie.Need-loop-holds Inv-loop μ-loop
 loop-holds c = let a = c .before .before .before in (stands-first (a .args .list .now) (a .pre .0), refl, refl)
 
-sub-look : tie.Need-sub-look Inv-loop μ-loop
-sub-look c = search needs
+sub-peek : tie.Need-sub-peek Inv-loop μ-loop
+sub-peek c = search needs
 
-part-look-start : tie.Need-part-look-start Inv-loop μ-loop
-part-look-start c = search needs
+part-peek-start : tie.Need-part-peek-start Inv-loop μ-loop
+part-peek-start c = search needs
 
-part-look-end : tie.Need-part-look-end Inv-loop μ-loop
-part-look-end c = search needs
+part-peek-end : tie.Need-part-peek-end Inv-loop μ-loop
+part-peek-end c = search needs
 
-look-requires : tie.Need-look-requires Inv-loop μ-loop
-look-requires c κs = search needs
+peek-requires : tie.Need-peek-requires Inv-loop μ-loop
+peek-requires c κs = search needs
 
 byte-of-requires : tie.Need-byte-of-requires Inv-loop μ-loop
 byte-of-requires c κs = search needs
 
 -- the delivery that a turn meets
-abbrev begun : tie.After-look Inv-loop μ-loop → tie.Start Inv-loop μ-loop
+abbrev begun : tie.After-peek Inv-loop μ-loop → tie.Start Inv-loop μ-loop
 begun c = c .before .before .before .before .before .before .before
 
-met : (c : tie.After-look Inv-loop μ-loop) → let l = c .before .before .before .loop in
-    Step (begun c .args .list .now) (begun c .args .key .now) (entriesIn (begun c .args .list .now)) (l .at) (l .place) (c .look .result)
-met c = let t = c .before .before in step (t .before .loop .inv .0) (t .loop-test .taken) _ _ (c .look .ensures .0)
+met : (c : tie.After-peek Inv-loop μ-loop) → let l = c .before .before .before .loop in
+    Step (begun c .args .list .now) (begun c .args .key .now) (entriesIn (begun c .args .list .now)) (l .at) (l .place) (c .peek .result)
+met c = let t = c .before .before in step (t .before .loop .inv .0) (t .loop-test .taken) _ _ (c .peek .ensures .0)
 
 slice-write-reasons : tie.Need-slice-write-reasons Inv-loop μ-loop
 slice-write-reasons c =
@@ -86,10 +86,10 @@ write-reasons-spec =
     Inv-loop
     μ-loop
     loop-holds
-    sub-look
-    part-look-start
-    part-look-end
-    look-requires
+    sub-peek
+    part-peek-start
+    part-peek-end
+    peek-requires
     byte-of-requires
     slice-write-reasons
     add-at

@@ -1,7 +1,7 @@
-//! What was checked of an answer: who gave which part of it, and what is proved
-//! of the library's part.
+//! What was checked of an answer: who gave which part of it, what is proved of
+//! the library's part, and what nobody checked.
 
-/// A name of docs/AUDIT.md, and what it says of the answer.
+/// What is proved, in plain words, and its name in docs/AUDIT.md.
 pub type Proved = (&'static str, &'static str);
 
 pub struct Checked {
@@ -12,79 +12,95 @@ pub struct Checked {
 
 /// The contract that every answer keeps.
 pub const CONTRACT: Proved = (
+    "Whatever the list and the key, the library answers just what the definition of this report \
+     says.",
     "explain",
-    "for every list, key and output, the answer and every byte of the output are those of the \
-     definition",
 );
 
 pub const WINNER: Checked = Checked {
-    sources: "\
-The proved library answered which delivery is in force, and the outcome of each.
-The tool itself read the fields of each delivery and counted the deliveries.",
+    sources: "The proved library answered which delivery is in force (WON), and how each other \
+              one compares with it. The tool itself read the fields of each delivery and counted \
+              the deliveries.",
     theorems: &[
         (
+            "The delivery in force is what a new store holds, and all that it holds, after the \
+             deliveries of this key were offered to it in the order of the list.",
             "winner-is-held",
-            "the delivery in force is what a new store holds, and all that it holds, after the \
-             deliveries of the key were offered to it in their order",
         ),
         (
+            "Each outcome is true of the stamps of its delivery and of the one in force. One \
+             delivery is in force; if the same entry came more than once, the first of them.",
             "reasons-mean",
-            "each outcome is true of the stamps of its delivery and of the one in force; one \
-             delivery is in force, and it is the first of its entry",
         ),
     ],
 };
 
 pub const NO_DELIVERY: Checked = Checked {
-    sources: "\
-The proved library answered that no delivery is of this key, and the outcome of
-each. The tool itself read the fields of each delivery and counted the
-deliveries.",
+    sources: "The proved library answered that no delivery is of this key. The tool itself read \
+              the fields of each delivery and counted the deliveries.",
     theorems: &[
         (
+            "Every delivery of the list is of another key, and its outcome says so.",
             "none-means",
-            "every delivery of the list is of another key, and its outcome says so",
         ),
         (
+            "A new store that was offered the deliveries of this key is still empty.",
             "winner-is-held",
-            "a new store holds nothing after the deliveries of the key were offered to it",
         ),
     ],
 };
 
 pub const CONFLICT: Checked = Checked {
-    sources: "\
-The proved library answered that two deliveries of this key have the same stamp
-and differ, and which two. It says nothing of each single delivery then: the
-tool itself compared the keys, read the fields of each delivery and counted the
-deliveries.",
+    sources: "The proved library answered that two deliveries of this key have the same stamp and \
+              differ, and which two. It judges no single delivery then: the tool itself compared \
+              the keys, read the fields of each delivery and counted the deliveries.",
     theorems: &[(
+        "Two deliveries are named exactly if they are of this key, have the same stamp and \
+         differ, and no such pair is before them: none has an earlier second delivery, and none \
+         with the same second delivery an earlier first one.",
         "conflict-exactly",
-        "two deliveries are named exactly if they are of the key, have the same stamp and differ, \
-         and no such pair is before them: none has an earlier second delivery, and none with the \
-         same second delivery an earlier first one",
     )],
 };
 
 pub const UNREADABLE: Checked = Checked {
-    sources: "\
-The proved library answered that the list is not readable, and no more. Which
-delivery cannot be read, and why, is the tool's own reading.",
-    theorems: &[(
-        "report-refused",
-        "this answer is given exactly for the lists that are not readable by the definition",
-    )],
+    sources: "The proved library answered that the list is not readable, and no more. Which \
+              delivery cannot be read, and why, is the tool's own reading.",
+    theorems: &[
+        (
+            "This answer is given for every list that is not readable, and for no other.",
+            "report-refused",
+        ),
+        (
+            "A list is readable exactly if it has at most 1,000 frames (messages), one behind the \
+             other, and each of them reads as a REPL.",
+            "readable-exactly",
+        ),
+    ],
 };
 
 impl Checked {
     /// What is proved, by name.
     pub fn names(&self) -> String {
-        let names: Vec<&str> = self.theorems.iter().map(|(name, _)| *name).collect();
+        let names: Vec<&str> = self.theorems.iter().map(|(_, name)| *name).collect();
         let theorems = match names.len() {
             1 => "theorem",
             _ => "theorems",
         };
-        let (contract, names) = (CONTRACT.0, names.join(", "));
+        let (contract, names) = (CONTRACT.1, names.join(", "));
         format!("Proved: contract of {contract}; {theorems} {names} (docs/AUDIT.md).")
     }
 }
+
+/// Above what the answer does not say.
+pub const LIMITS_TITLE: &str = "What this report does not say";
+
+pub const LIMITS: [&str; 5] = [
+    "The module's own PUT and DEL (what was set or deleted on the module itself), and what came \
+     in a merged store (all of another module's at once), are not in the list. If one of them has \
+     a greater stamp, the module holds that one.",
+    "The list may lack deliveries that came, or have some that did not come.",
+    "The module may have refused a delivery of the list, as with a full store or with a clock \
+     that can count no further.",
+    "A module's clock may have been wrong. The stamps are taken as they are.",
+    "The tool that made this report is tested, not proved.",
+];

@@ -1,23 +1,20 @@
 //! What the library says of a list and a key, in words.
 
 use super::checked::{self, Checked};
+use super::unreadable;
 use crate::cli::{failure, Failure};
-use crate::text::bytes::shown;
-use crate::text::message::name;
+use crate::text::bytes::{fitting, shown};
 use crate::text::table::{Column, Side};
 use crate::text::time::utc;
-use snowpulley::audit::{
-    explain, read, Delivery, Explained, Fault, Reason, Unreadable, DELIVERIES_MAX,
-};
+use snowpulley::audit::{explain, read, Delivery, Explained, Reason, Unreadable, DELIVERIES_MAX};
 use snowpulley::checksum::crc32c;
-use snowpulley::frame::LEN_RANGE;
 use snowpulley::{Content, Refusal};
 
 pub const COLUMNS: [Column; 6] = [
     (Side::Right, "delivery"),
     (Side::Left, "time (UTC)"),
     (Side::Right, "count"),
-    (Side::Right, "module"),
+    (Side::Right, "module id"),
     (Side::Left, "value"),
     (Side::Left, "outcome"),
 ];
@@ -29,11 +26,17 @@ pub fn with_key<T>(key: T, cells: [T; 6]) -> [T; 7] {
     [delivery, key, time, count, module, value, outcome]
 }
 
-pub const NOTE: &str = "\
-Deliveries are counted from 0, in the order of the list. Time, count and module
-are the stamp that the writing module gave; they decide in this order. Times are
-shown as counted from 1970-01-01 00:00 UTC, which is the site's convention and
-not a rule of the store.";
+pub const NOTE: &str = "Each delivery is a REPL frame of the list: the message by which a module \
+    sends an entry to another one. Deliveries are counted from 0, in the order of the list. Time, \
+    count and module id are the stamp that the writing module gave; they decide in this order, and \
+    the greatest wins. Times are shown as counted from 1970-01-01 00:00 UTC, which is the site's \
+    convention and not a rule of the store.";
+
+/// How many columns a value may take, unless all of it is asked for: in the
+/// answer, and in a table, whose lines so have at most 120.
+const IN_ANSWER: usize = 60;
+const IN_TABLE: usize = 28;
+const ALL: usize = usize::MAX;
 
 /// What is found, and what it is about.
 pub struct Findings<'a> {
@@ -72,7 +75,7 @@ impl<'a> Findings<'a> {
                 (Vec::new(), Answer::Unreadable(unreadable))
             }
             (Explained::Refused(refusal), _) => {
-                let key = shown(key, usize::MAX);
+                let key = shown(key, ALL);
                 return Err(failure(format!("key {key}: refused with {refusal}")));
             }
             (_, Err(_)) => return Err(failure("the library reads the list, and the tool cannot")),
@@ -103,55 +106,46 @@ impl<'a> Findings<'a> {
     }
 
     pub fn key(&self) -> String {
-        shown(self.key, usize::MAX)
+        shown(self.key, ALL)
     }
 
     /// The list's length and checksum.
     pub fn size(&self) -> String {
         let (bytes, checksum) = (self.list.len(), crc32c(self.list));
-        format!("{bytes} bytes, CRC32C {checksum:#010x}")
+        format!("{bytes} bytes, checksum CRC32C {checksum:#010x}")
     }
 
-    /// The answer in one sentence. Values that differ are shown in full.
-    pub fn sentence(&self, limit: usize) -> String {
+    /// The answer, in a few lines. Values that differ are shown in full.
+    pub fn answer(&self, full: bool) -> String {
         let key = self.key();
+        let none = format!("No delivery of {key} can be named:");
         match &self.answer {
-            Answer::Winner(place, _) => self.in_force(*place, limit),
+            Answer::Winner(place, _) => self.in_force(*place, if full { ALL } else { IN_ANSWER }),
             Answer::NoDelivery(_) => format!("The list has no delivery of {key}."),
-            Answer::Conflict(earlier, later) => {
-                let content = |place: usize| self.content(place, usize::MAX);
-                format!(
-                    "No delivery of {key} can be named: delivery {earlier} ({}) and delivery \
-                     {later} ({}) have the same stamp and differ.",
-                    content(*earlier),
-                    content(*later)
-                )
-            }
-            Answer::Unreadable(Unreadable { place, at, fault }) => format!(
-                "No delivery of {key} can be named: delivery {place}, {at} bytes into the list, \
-                 cannot be read: {}.",
-                fault_text(fault)
+            Answer::Conflict(earlier, later) => format!(
+                "{none}\ndelivery {earlier} ({}) and delivery {later} ({}) have the same stamp and \
+                 differ.\nThis is the first such pair; there may be more.",
+                self.content(*earlier, ALL),
+                self.content(*later, ALL)
             ),
+            Answer::Unreadable(fault) => {
+                format!("{none}\n{}", unreadable::told(self.list, fault))
+            }
         }
     }
 
-    fn in_force(&self, place: usize, limit: usize) -> String {
+    fn in_force(&self, place: usize, width: usize) -> String {
         let (key, stamp) = (self.key(), self.deliveries[place].entry.stamp);
-        let stamped = format!("stamped {} UTC by module {}", utc(stamp.phys), stamp.node);
-        match self.deliveries[place].entry.content {
-            Content::Active(value) => {
-                let value = shown(value, limit);
-                format!("Delivery {place} is in force for {key}: {value}, {stamped}.")
-            }
-            Content::Tombstone => {
-                format!("{key} was deleted: delivery {place} is in force, {stamped}.")
-            }
-        }
+        let (content, time, node) = (self.content(place, width), utc(stamp.phys), stamp.node);
+        format!(
+            "Of the deliveries in this list, delivery {place} is in force for {key}:\n\
+             {content}, stamped {time} UTC by module {node}."
+        )
     }
 
-    fn content(&self, place: usize, limit: usize) -> String {
+    fn content(&self, place: usize, width: usize) -> String {
         match self.deliveries[place].entry.content {
-            Content::Active(value) => shown(value, limit),
+            Content::Active(value) => fitting(value, width),
             Content::Tombstone => "deleted".to_string(),
         }
     }
@@ -193,25 +187,26 @@ impl<'a> Findings<'a> {
     }
 
     /// A row for each delivery of the key, or for all.
-    pub fn rows(&self, all: bool, limit: usize) -> Vec<Row> {
+    pub fn rows(&self, all: bool, full: bool) -> Vec<Row> {
         let places = 0..self.deliveries.len();
         let listed = places.filter(|&place| all || self.is_of_key(place));
-        listed.map(|place| self.row(place, limit)).collect()
+        let width = if full { ALL } else { IN_TABLE };
+        listed.map(|place| self.row(place, width)).collect()
     }
 
-    fn row(&self, place: usize, limit: usize) -> Row {
+    fn row(&self, place: usize, width: usize) -> Row {
         let entry = self.deliveries[place].entry;
         let cells = [
             place.to_string(),
             utc(entry.stamp.phys),
             entry.stamp.logical.to_string(),
             entry.stamp.node.to_string(),
-            self.content(place, limit),
+            self.content(place, width),
             self.outcome(place),
         ];
         Row {
             cells,
-            key: shown(entry.key, limit),
+            key: fitting(entry.key, width),
             is_named: self.names(place),
         }
     }
@@ -236,12 +231,11 @@ impl<'a> Findings<'a> {
 
     fn outcome(&self, place: usize) -> String {
         match &self.answer {
-            Answer::Winner(winner, reasons) => against(reasons[place], *winner),
-            Answer::NoDelivery(reasons) => reasons[place].to_string(),
+            Answer::Winner(_, reasons) | Answer::NoDelivery(reasons) => compared(reasons[place]),
             Answer::Conflict(one, two) if place == *one => conflicting(*two),
             Answer::Conflict(one, two) if place == *two => conflicting(*one),
-            _ if self.is_of_key(place) => String::new(),
-            _ => Reason::OtherKey.to_string(),
+            _ if self.is_of_key(place) => "not judged".to_string(),
+            _ => compared(Reason::OtherKey),
         }
     }
 }
@@ -252,36 +246,15 @@ fn reasons_of(bytes: &[u8]) -> Result<Vec<Reason>, Failure> {
     reasons.collect::<Option<_>>().ok_or_else(unknown)
 }
 
-/// A reason in words that say against what the delivery lost.
-fn against(reason: Reason, winner: usize) -> String {
+/// A reason in the words of a report: there a node is a module.
+fn compared(reason: Reason) -> String {
     match reason {
         Reason::Won => "WON".to_string(),
-        Reason::EarlierTime => format!("earlier time than delivery {winner}"),
-        Reason::LowerCount => format!("same time as delivery {winner}, lower count"),
-        Reason::LowerNode => {
-            format!("same time and count as delivery {winner}, lower module id")
-        }
-        Reason::SameEntry => format!("the same entry as delivery {winner} again"),
-        Reason::OtherKey => reason.to_string(),
+        Reason::LowerNode => "same time and count, lower module id".to_string(),
+        other => other.to_string(),
     }
 }
 
 fn conflicting(other: usize) -> String {
-    format!("same stamp as delivery {other}, and differs")
-}
-
-fn fault_text(fault: &Fault<'_>) -> String {
-    match fault {
-        Fault::Cut(1) => "the list ends after 1 byte of its frame".to_string(),
-        Fault::Cut(bytes) => format!("the list ends after {bytes} bytes of its frame"),
-        Fault::Len(len) => {
-            let (low, high) = (LEN_RANGE.start(), LEN_RANGE.end());
-            format!("its LEN is {len}, and may be {low} to {high}")
-        }
-        Fault::Refused(refusal) => format!("its frame is refused with {refusal}"),
-        Fault::NoRepl(message) => {
-            format!("it is a frame of type {}, not REPL", name(message))
-        }
-        Fault::TooMany => format!("a list has at most {DELIVERIES_MAX} deliveries"),
-    }
+    format!("same stamp as delivery {other}, differs")
 }

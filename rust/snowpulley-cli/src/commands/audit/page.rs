@@ -1,8 +1,8 @@
 //! The report as a page of HTML: black on white, for sheets of A4.
 
-use super::checked::{Checked, Proved, CONTRACT};
+use super::checked::{Checked, Proved, CONTRACT, LIMITS, LIMITS_TITLE};
 use super::findings::{with_key, Findings, Row, COLUMNS, KEY_COLUMN, NOTE};
-use crate::text::bytes::SHORT;
+use crate::cli::VERSION;
 use crate::text::markup::escaped;
 use crate::text::table::{Column, Side};
 use std::fmt::Write;
@@ -11,8 +11,9 @@ const STYLE: &str = "\
 body { margin: 8mm auto; max-width: 180mm; color: black; background: white;
   font: 10pt/1.4 Helvetica, Arial, 'Liberation Sans', 'DejaVu Sans', sans-serif }
 h1 { font-size: 15pt; margin: 0 0 4mm }
-h2 { font-size: 11pt; margin: 7mm 0 2mm }
-p { margin: 0 0 3mm }
+h2 { font-size: 10.5pt; margin: 4mm 0 1mm; break-after: avoid }
+p, ul { margin: 0 0 2mm }
+ul { padding-left: 5mm }
 .answer { border: 0.6mm solid black; padding: 3mm; font-size: 11pt; font-weight: bold }
 .answer, dd, td { white-space: pre-wrap; overflow-wrap: anywhere }
 dl { display: grid; grid-template-columns: max-content 1fr; gap: 0.5mm 5mm; margin: 0 0 5mm }
@@ -22,7 +23,7 @@ code { font-family: 'DejaVu Sans Mono', monospace; font-size: 90% }
 table { width: 100%; table-layout: fixed; border-collapse: collapse;
   font-size: 8.5pt; line-height: 1.35 }
 thead { display: table-header-group }
-tr { break-inside: avoid }
+tr, p, li, section { break-inside: avoid }
 th, td { padding: 1mm 1.5mm; text-align: left; vertical-align: top;
   border-bottom: 0.2mm solid black }
 th { border-bottom-width: 0.5mm }
@@ -30,20 +31,14 @@ th:first-child, td:first-child { padding-left: 0 }
 th:last-child, td:last-child { padding-right: 0 }
 .number { text-align: right }
 .named td { font-weight: bold; border-top: 0.5mm solid black; border-bottom-width: 0.5mm }
-footer { break-inside: avoid }
+footer { font-size: 8.5pt }
 .small { font-size: 8.5pt }
 table + p { margin-top: 2mm }
-@media print { body { margin: 0; max-width: none } }
+.signed { display: none; margin: 0 }
+.signed dd { border-bottom: 0.2mm solid black; height: 8mm }
+.signed dt { padding-top: 4mm }
+@media print { body { margin: 0; max-width: none } .signed { display: grid } }
 ";
-
-/// What the answer does not say.
-const LIMITS: [&str; 2] = [
-    "The tool is tested, not proved. It cannot know whether the list has every delivery that \
-     came, or whether a module's clock was right.",
-    "A module's own PUT and DEL come in no REPL frame, so they are not in a list of what it \
-     received. A frame in the list need not have been accepted by the module: a full store or a \
-     clock whose count is at its end refuses it (STORE_FULL, CLOCK_SPENT).",
-];
 
 /// The whole page.
 pub fn page(findings: &Findings<'_>, all: bool) -> String {
@@ -53,10 +48,10 @@ pub fn page(findings: &Findings<'_>, all: bool) -> String {
         "h1",
         "Which delivery is in force, and why not the others",
     );
-    let sentence = escaped(&findings.sentence(SHORT));
-    let _ = writeln!(body, "<p class=\"answer\">{sentence}</p>");
+    let answer = escaped(&findings.answer(false));
+    let _ = writeln!(body, "<p class=\"answer\">{answer}</p>");
     facts(&mut body, &findings.facts(all));
-    let rows = findings.rows(all, usize::MAX);
+    let rows = findings.rows(all, true);
     if !rows.is_empty() {
         table(&mut body, &rows, all);
         let _ = writeln!(body, "<p class=\"small\">{}</p>", escaped(NOTE));
@@ -96,8 +91,8 @@ fn facts(body: &mut String, facts: &[(&str, String)]) {
 }
 
 /// How wide the columns are, in hundredths; with the key in its place.
-const WIDTHS: [u8; 6] = [10, 23, 8, 9, 27, 23];
-const WIDTHS_WITH_KEY: [u8; 7] = [10, 14, 13, 7, 9, 22, 25];
+const WIDTHS: [u8; 6] = [9, 26, 8, 9, 26, 22];
+const WIDTHS_WITH_KEY: [u8; 7] = [9, 15, 15, 7, 9, 21, 24];
 
 fn table(body: &mut String, rows: &[Row], all: bool) {
     let (columns, widths) = match all {
@@ -139,25 +134,46 @@ fn cell(body: &mut String, name: &str, (side, _): Column, text: &str) {
 
 fn footer(body: &mut String, checked: &Checked) {
     body.push_str("<footer>\n");
-    element(body, "h2", "What was checked");
+    element(body, "h2", "Who answered");
     element(body, "p", checked.sources);
-    element(body, "p", &checked.names());
-    body.push_str("<dl class=\"small\">\n");
+    element(body, "h2", "What is proved of the library");
+    element(body, "p", PROVED);
+    body.push_str("<ul>\n");
     proved(body, "contract of", CONTRACT);
     for theorem in checked.theorems {
         proved(body, "theorem", *theorem);
     }
-    body.push_str("</dl>\n");
-    for text in LIMITS {
-        element(body, "p", text);
-    }
+    body.push_str("</ul>\n");
+    limits(body);
     body.push_str("</footer>\n");
 }
 
-fn proved(body: &mut String, kind: &str, (name, meaning): Proved) {
+/// With the lines to sign, so that these stand on no sheet of their own.
+fn limits(body: &mut String) {
+    body.push_str("<section>\n");
+    element(body, "h2", LIMITS_TITLE);
+    body.push_str("<ul>\n");
+    for limit in LIMITS {
+        element(body, "li", limit);
+    }
+    body.push_str("</ul>\n");
+    element(body, "p", &format!("Made by {VERSION}."));
+    body.push_str(SIGNED);
+    body.push_str("</section>\n");
+}
+
+const PROVED: &str = "A machine has checked these statements for every list and every key. What \
+    they assume, and where the proofs are, is said in docs/AUDIT.md.";
+
+/// Lines to fill in by hand, on paper only.
+const SIGNED: &str = "\
+<dl class=\"signed\">
+<dt>Date</dt><dd></dd>
+<dt>Name and signature</dt><dd></dd>
+</dl>
+";
+
+fn proved(body: &mut String, kind: &str, (meaning, name): Proved) {
     let meaning = escaped(meaning);
-    let _ = writeln!(
-        body,
-        "<dt>{kind} <code>{name}</code></dt><dd>{meaning}</dd>"
-    );
+    let _ = writeln!(body, "<li>{meaning} ({kind} <code>{name}</code>)</li>");
 }

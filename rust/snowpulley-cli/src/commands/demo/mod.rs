@@ -17,7 +17,7 @@ use tale::Tale;
 pub const COMMAND: Command = Command {
     name: "demo",
     usage: "",
-    summary: "replay what went wrong on the site, with the theorem behind each line",
+    summary: "replay what went wrong on the site, with a theorem behind each line",
     help: &["\
 Two modules agree on a correction. One sleeps while the other is mended, wakes
 and offers the old one. Each line is a call of the proved library and names the

@@ -1,30 +1,37 @@
 //! `snowpulley replay`: a journal, answered and shown.
 
-use crate::args::Args;
-use crate::cli::{Command, Failure, Outcome, Report};
+mod deliveries;
+
+use crate::args::{self, Args};
+use crate::cli::{failure, Command, Failure, Outcome, Report};
 use crate::files;
 use crate::journal::{Broken, Record, Records};
 use crate::module::Module;
 use crate::text::message::{name, of_frame, of_message};
 use crate::text::table::{Side, Table};
-use snowpulley::audit::DELIVERIES_MAX;
+use deliveries::Deliveries;
 use snowpulley::{frame, store, Message, Refusal};
 use std::collections::BTreeMap;
 use std::fmt::Write;
 
 pub const COMMAND: Command = Command {
     name: "replay",
-    usage: "JOURNAL [--store OUT] [--replies OUT] [--deliveries OUT] [--full]",
+    usage: "JOURNAL [--store OUT] [--replies OUT]
+                  [--deliveries OUT [--key KEY [--hex]]] [--full]",
     summary: "answer a journal's requests and show them with their replies",
     help: &["\
 Answers the requests of a journal as the replay program does, with a store of
-100 slots and a clock of node id 1. Shows each request with its time and reply,
-and how often each reply was given. JOURNAL is a file, or - for standard input.
+100 slots and a clock of module id 1. Shows each request with its time and
+reply, and how often each reply was given. JOURNAL is a file, or - for standard
+input.
 
   --store OUT       write the store's image after the last request to a file
   --replies OUT     write the reply frames to a file
   --deliveries OUT  write the REPL frames that were answered OK to a file, as a
-                    list for snowpulley audit; what PUT and DEL wrote is not in it
+                    list for snowpulley audit. The module's own PUT and DEL, and
+                    what came in a merged store, are not in the list.
+  --key KEY         write only the deliveries of this key
+  --hex             KEY is in hexadecimal, as for snowpulley audit
   --full            show all of long keys and values
 
 A journal that ends inside a record, or has a LEN out of range, is a negative
@@ -43,61 +50,38 @@ const SHORT: usize = 16;
 const REQUEST_WIDTH: usize = 48;
 
 fn run(mut args: Args) -> Outcome {
-    let (image, replies) = (args.option("--store")?, args.option("--replies")?);
-    let deliveries = args.option("--deliveries")?;
+    let (image, replies) = (args.output("--store")?, args.output("--replies")?);
+    let (list, key) = (args.output("--deliveries")?, key(&mut args)?);
+    if key.is_some() && list.is_none() {
+        return Err(failure("--key needs --deliveries"));
+    }
     let full = args.flag("--full");
-    let journal = files::read(&args.operand("JOURNAL")?)?;
-    let mut replay = Replay::fresh(if full { usize::MAX } else { SHORT })?;
+    let path = args.operand("JOURNAL")?;
+    let journal = files::read(&path)?;
+    let outputs = [&image, &replies, &list].map(Option::as_deref);
+    files::keep_apart(&path, &outputs)?;
+    let mut replay = Replay::fresh(key, if full { usize::MAX } else { SHORT })?;
     replay.all(&journal)?;
-    if let Some(path) = image {
-        files::write(&path, &replay.module.store)?;
+    let written = [
+        &replay.module.store,
+        &replay.replies,
+        &replay.deliveries.list,
+    ];
+    for (path, bytes) in outputs.iter().zip(written) {
+        path.map_or(Ok(()), |path| files::write(path, bytes))?;
     }
-    if let Some(path) = replies {
-        files::write(&path, &replay.replies)?;
-    }
-    let mut note = String::new();
-    if let Some(path) = deliveries {
-        files::write(&path, &replay.written.deliveries)?;
-        note = replay.written.note();
-    }
+    let note = list.map_or(String::new(), |_| replay.deliveries.note());
     let Report { text, is_good } = replay.report()?;
     let text = text + &note;
     Ok(Report { text, is_good })
 }
 
-/// The requests to write that were answered OK.
-#[derive(Default)]
-struct Written {
-    /// The REPL frames, one right after the other.
-    deliveries: Vec<u8>,
-    /// How many they are.
-    delivered: usize,
-    /// How many PUT and DEL there were.
-    own: usize,
-}
-
-impl Written {
-    fn add(&mut self, frame: &[u8]) {
-        match frame::read(frame) {
-            Ok(Message::Repl(_)) => {
-                self.deliveries.extend(frame);
-                self.delivered += 1;
-            }
-            Ok(Message::Put { .. } | Message::Del { .. }) => self.own += 1,
-            _ => {}
-        }
-    }
-
-    fn note(&self) -> String {
-        let Written { delivered, own, .. } = self;
-        let many = if *delivered > DELIVERIES_MAX {
-            format!(", more than the {DELIVERIES_MAX} that an audit takes")
-        } else {
-            String::new()
-        };
-        format!(
-            "deliveries written: {delivered}{many}; PUT and DEL that are not in the list: {own}\n"
-        )
+/// The key of which deliveries are asked for.
+fn key(args: &mut Args) -> Result<Option<Vec<u8>>, Failure> {
+    let (key, hex) = (args.option("--key")?, args.flag("--hex"));
+    match key {
+        None if hex => Err(failure("--hex needs --key")),
+        key => key.map(|key| args::key(key, hex)).transpose(),
     }
 }
 
@@ -105,7 +89,7 @@ struct Replay {
     module: Module,
     /// The reply frames so far.
     replies: Vec<u8>,
-    written: Written,
+    deliveries: Deliveries,
     /// How often each reply was given.
     counts: BTreeMap<(u8, String), usize>,
     lines: Vec<String>,
@@ -114,11 +98,12 @@ struct Replay {
 }
 
 impl Replay {
-    fn fresh(limit: usize) -> Result<Replay, Failure> {
+    /// Before the first request; a key limits the deliveries.
+    fn fresh(key: Option<Vec<u8>>, limit: usize) -> Result<Replay, Failure> {
         Ok(Replay {
             module: Module::fresh(NODE, SLOTS)?,
             replies: Vec::new(),
-            written: Written::default(),
+            deliveries: Deliveries::of(key),
             counts: BTreeMap::new(),
             lines: Vec::new(),
             limit,
@@ -138,9 +123,8 @@ impl Replay {
 
     fn answer(&mut self, Record { time, frame }: Record<'_>) -> Result<(), Failure> {
         let reply = self.module.answer(time, frame).to_vec();
-        if frame::read(&reply) == Ok(Message::Ok) {
-            self.written.add(frame);
-        }
+        let is_ok = frame::read(&reply) == Ok(Message::Ok);
+        self.deliveries.add(frame, is_ok);
         self.line(&time.to_string(), &of_frame(frame, self.limit), &reply)
     }
 

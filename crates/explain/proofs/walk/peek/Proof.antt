@@ -3,8 +3,8 @@ use native.Mathlib.Omega.{arith}
 use Prim.Native.Nat.{_+_, _≤_}
 use lib.ListN.{length}
 use Rattle.explain.proofs.Seeing.{seen-nothing, seen-within, seen-delivery}
-use Rattle.explain.proofs.walk.look.Statement.{statement}
-use Rattle.explain.proofs.walk.look.Tie as tie
+use Rattle.explain.proofs.walk.peek.Statement.{statement}
+use Rattle.explain.proofs.walk.peek.Tie as tie
 
 cut-unchecked-requires : tie.Need-cut-unchecked-requires
 cut-unchecked-requires c κs = search needs
@@ -45,8 +45,8 @@ returns-2 c =
     let k = c .before .before in
     (seen-delivery _ _ _ (k .before .before .before .cut-unchecked .ensures) _ _ _ _ _ _ _ (k .before .front .given .1) _ (c .same .ensures), within k .1)
 
-pub look-spec : {M : Type 1} → statement M
-look-spec =
+pub peek-spec : {M : Type 1} → statement M
+peek-spec =
     tie.close
     (tie.spec
     cut-unchecked-requires

@@ -1,5 +1,5 @@
--- The winner, found in one walk: a leader is kept, and replaced by each later delivery of the key
--- that beats it.
+-- The winner, found in one walk: the best delivery so far is kept, and replaced by each later one
+-- of the key that beats it.
 use Prim.Native.Nat.{ℕ, suc}
 use mathlib.Core.Path.{_≡_, refl, sym, _∙_}
 use mathlib.Core.Logic.{inl, inr}
@@ -12,15 +12,15 @@ use Rattle.entry.proofs.Order.{beats-asym, beats-weak}
 use Rattle.store.proofs.HeldLaws.{beats-irrefl}
 use Rattle.explain.specs.Winner.{isOf, unbeaten, Placed, firstUnbeaten, winner}
 
--- the leader after one more delivery, at place i
-abbrev pub lead : List ℕ → Option Placed → ℕ → Entry → Option Placed
-lead k none i d = cond (isOf k d) (some (record { place = i; entry = d })) none
-lead k (some w) i d = cond (isOf k d && beats d (w .entry)) (some (record { place = i; entry = d })) (some w)
+-- the best so far after one more delivery, at place i
+abbrev pub bestAfter : List ℕ → Option Placed → ℕ → Entry → Option Placed
+bestAfter k none i d = cond (isOf k d) (some (record { place = i; entry = d })) none
+bestAfter k (some w) i d = cond (isOf k d && beats d (w .entry)) (some (record { place = i; entry = d })) (some w)
 
 -- after some more deliveries, from place i on
-unfoldable pub leads : List ℕ → Option Placed → ℕ → List Entry → Option Placed
-leads k o i [] = o
-leads k o i (d ∷ ds) = leads k (lead k o i d) (suc i) ds
+unfoldable pub bestOver : List ℕ → Option Placed → ℕ → List Entry → Option Placed
+bestOver k o i [] = o
+bestOver k o i (d ∷ ds) = bestOver k (bestAfter k o i d) (suc i) ds
 
 -- ---- who is beaten
 -- what does not beat a beaten delivery is beaten too
@@ -80,29 +80,29 @@ module _ (k : List ℕ) (i : ℕ) (d : Entry) (ds : List Entry) where
   ]
 
 -- ---- the walk
--- a leader stays the leader if no later delivery of the key beats it; otherwise the first of those
--- that is unbeaten leads
-pub leads-from : (k : List ℕ) (w : Placed) (i : ℕ) (ds : List Entry)
-    → leads k (some w) i ds ≡ cond (unbeaten k ds (w .entry)) (some w) (firstUnbeaten k ds i ds)
-unfolding leads unbeaten
-leads-from k w i [] = refl
-leads-from k w i (d ∷ ds) = elim (test (isOf k d && beats d (w .entry))) [
+-- the best so far stays if no later delivery of the key beats it; otherwise it is the first of
+-- those that is unbeaten
+pub over-from : (k : List ℕ) (w : Placed) (i : ℕ) (ds : List Entry)
+    → bestOver k (some w) i ds ≡ cond (unbeaten k ds (w .entry)) (some w) (firstUnbeaten k ds i ds)
+unfolding bestOver unbeaten
+over-from k w i [] = refl
+over-from k w i (d ∷ ds) = elim (test (isOf k d && beats d (w .entry))) [
   | inl p ↦ let t = and-true (isOf k d) (beats d (w .entry)) p in
-      rw (p, leads-from k (record { place = i; entry = d }) (suc i) ds) (sym (first-of k i d ds (t .0)))
-  | inr p ↦ rw (p, leads-from k w (suc i) ds) (elim (test (unbeaten k ds (w .entry))) [
+      rw (p, over-from k (record { place = i; entry = d }) (suc i) ds) (sym (first-of k i d ds (t .0)))
+  | inr p ↦ rw (p, over-from k w (suc i) ds) (elim (test (unbeaten k ds (w .entry))) [
     | inl q ↦ rw q
     | inr q ↦ rw q (sym (first-past k i d ds (λ r. beaten-too k ds d (w .entry) q (rw r at p))))
   ])
 ]
 
-pub leads-none : (k : List ℕ) (i : ℕ) (ds : List Entry) → leads k none i ds ≡ firstUnbeaten k ds i ds
-unfolding leads
-leads-none k i [] = sym (first-empty k [] i)
-leads-none k i (d ∷ ds) = elim (test (isOf k d)) [
-  | inl p ↦ rw p (leads-from k (record { place = i; entry = d }) (suc i) ds ∙ sym (first-of k i d ds p))
-  | inr p ↦ rw p (leads-none k (suc i) ds ∙ sym (first-past k i d ds (λ q. clash q p)))
+pub over-none : (k : List ℕ) (i : ℕ) (ds : List Entry) → bestOver k none i ds ≡ firstUnbeaten k ds i ds
+unfolding bestOver
+over-none k i [] = sym (first-empty k [] i)
+over-none k i (d ∷ ds) = elim (test (isOf k d)) [
+  | inl p ↦ rw p (over-from k (record { place = i; entry = d }) (suc i) ds ∙ sym (first-of k i d ds p))
+  | inr p ↦ rw p (over-none k (suc i) ds ∙ sym (first-past k i d ds (λ q. clash q p)))
 ]
 
-pub winner-leads : (k : List ℕ) (es : List Entry) → leads k none 0 es ≡ winner k es
+pub winner-over : (k : List ℕ) (es : List Entry) → bestOver k none 0 es ≡ winner k es
 unfolding winner
-winner-leads k es = leads-none k 0 es
+winner-over k es = over-none k 0 es
