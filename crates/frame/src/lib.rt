@@ -34,8 +34,6 @@ ghost use Rattle.frame.specs.Writing.{Writes};
 
 // The longest frame, in bytes.
 pub const MAX_FRAME: usize = 600;
-// The greatest LEN, which counts what follows it.
-pub const MAX_LEN: usize = MAX_FRAME - 2;
 
 // TYPE of each message.
 const PUT: u8 = 1;

@@ -1,18 +1,17 @@
 -- How a comparison of two byte strings came out.
 use Prim.Native.Nat.{ℕ}
-use native.Mathlib.Omega.{arith}
 use mathlib.Core.Path.{_≡_}
 use mathlib.Core.Logic.{inl, inr}
 use mathlib.Core.Bool.{true, false}
 use mathlib.Core.List.{List}
 use Rattle.wire.specs.Order.{sameBytes, comparison}
 use Rattle.wire.specs.declared.Comparison.the-variants as order
-use Rattle.wire.proofs.Tests.{test, false-of}
+use Rattle.wire.proofs.Tests.{test, false-of, never}
 use Rattle.entry.specs.Order.{keyBelow}
 
 -- values of which an equation would make 0 and 1 equal are distinct
 pub distinct : {A B : Type 0} (a b : B) → (a ≡ b → _≡_ {A = ℕ} 0 1) → a ≡ b → A
-distinct a b f e = let z = f e in absurd (omega arith)
+distinct a b f e = never (f e)
 
 pub same-not-below : order.Same ≡ order.Below → ⊥
 same-not-below = distinct order.Same order.Below (λ e. cc)

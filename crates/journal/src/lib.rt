@@ -1,8 +1,11 @@
 // A journal is a run of records, each a time (6 bytes) and a frame. This cuts the first record from the bytes at hand.
-use frame::MAX_LEN;
+use frame::MAX_FRAME;
 use wire::get_be;
 ghost use mathlib.Core.Path.{_≡_};
 ghost use Rattle.journal.specs.Journal.{meaning, pieceOf};
+
+// The greatest LEN, which counts what follows it.
+const MAX_LEN: usize = MAX_FRAME - 2;
 
 // What stands at the front of some bytes of a journal.
 pub enum Cut {

@@ -1,7 +1,9 @@
 //! Lists of deliveries.
 
+mod bodies;
 mod delivered;
 
+use bodies::repl_body;
 use delivered::{active, entry, frame, tombstone};
 use reference::deliveries::{read, Delivery, DELIVERIES_MAX};
 use reference::frame::{sealed, Message, REPL};
@@ -127,37 +129,26 @@ fn frames_of_other_types() {
     }
 }
 
-/// The body of a REPL, right or not.
-fn body(key: &[u8], flag: u8, value: &[u8]) -> Vec<u8> {
-    let mut body = vec![key.len() as u8];
-    body.extend(key);
-    body.push(flag);
-    body.extend([0, 0, 0, 0, 3, 0xE8, 0, 5, 2]);
-    body.extend((value.len() as u16).to_be_bytes());
-    body.extend(value);
-    body
-}
-
 #[test]
 fn replications_that_are_not_readable() {
-    let right = sealed(REPL, 0, &body(b"k", 0, b"on"));
+    let right = sealed(REPL, 0, &repl_body(b"k", 0, b"on"));
     assert_eq!(count(&right), Ok(1));
-    let largest = sealed(REPL, 0, &body(&[b'k'; 64], 0, &[7; 512]));
+    let largest = sealed(REPL, 0, &repl_body(&[b'k'; 64], 0, &[7; 512]));
     assert_eq!(count(&largest), Ok(1));
     let mut checksum = right.clone();
     *checksum.last_mut().unwrap() ^= 1;
-    let mut longer = body(b"k", 0, b"on");
+    let mut longer = repl_body(b"k", 0, b"on");
     longer.push(0);
     let wrong = [
         checksum,
-        sealed(REPL, 0, &body(b"_sys:a", 0, b"on")), // the key
-        sealed(REPL, 0, &body(b"", 0, b"on")),
-        sealed(REPL, 0, &body(&[b'k'; 65], 0, b"on")),
-        sealed(REPL, 0, &body(b"k", 0, &[7; 513])), // the value
-        sealed(REPL, 0, &body(b"k", 2, b"")),       // the flag
-        sealed(REPL, 0, &body(b"k", 1, b"on")),     // a tombstone with a value
-        sealed(REPL, 1, &body(b"k", 0, b"on")),     // FLAGS
-        sealed(5, 0, &body(b"k", 0, b"on")),        // a type that no message has
+        sealed(REPL, 0, &repl_body(b"_sys:a", 0, b"on")), // the key
+        sealed(REPL, 0, &repl_body(b"", 0, b"on")),
+        sealed(REPL, 0, &repl_body(&[b'k'; 65], 0, b"on")),
+        sealed(REPL, 0, &repl_body(b"k", 0, &[7; 513])), // the value
+        sealed(REPL, 0, &repl_body(b"k", 2, b"")),       // the flag
+        sealed(REPL, 0, &repl_body(b"k", 1, b"on")),     // a tombstone with a value
+        sealed(REPL, 1, &repl_body(b"k", 0, b"on")),     // FLAGS
+        sealed(5, 0, &repl_body(b"k", 0, b"on")),        // a type that no message has
         sealed(REPL, 0, &longer),
         sealed(REPL, 0, &longer[..longer.len() - 2]),
         sealed(REPL, 0, &[]),

@@ -1,5 +1,8 @@
 //! Reading and writing frames.
 
+mod bodies;
+
+use bodies::repl_body;
 use reference::checksum::crc32c_bits;
 use reference::frame::{self, read, sealed, Message};
 use reference::stamp::Stamp;
@@ -51,16 +54,6 @@ fn value(value: &[u8]) -> Message {
 fn put_body(key: &[u8], value: &[u8]) -> Vec<u8> {
     let mut body = vec![key.len() as u8];
     body.extend(key);
-    body.extend((value.len() as u16).to_be_bytes());
-    body.extend(value);
-    body
-}
-
-fn repl_body(key: &[u8], flag: u8, value: &[u8]) -> Vec<u8> {
-    let mut body = vec![key.len() as u8];
-    body.extend(key);
-    body.push(flag);
-    body.extend([0, 0, 0, 0, 3, 0xE8, 0, 5, 2]);
     body.extend((value.len() as u16).to_be_bytes());
     body.extend(value);
     body
