@@ -2,11 +2,11 @@
  *
  * Link with libsnowpulley.a. It is for x86-64 Linux, the one target of the toolchain, and needs
  * memcpy, memmove and memset. It has no heap and no data of its own that changes. A call takes up
- * to 18 KiB of stack (sp_explain 33 KiB): a checksum makes its table of 16 KiB there, so every
- * call that takes a checksum takes 12 KiB or more. The calls of the clock and of the peer table,
- * sp_owners, sp_fmix32, sp_ring_is_sound and sp_store_create take less than 2 KiB. This is
- * measured, not proved (docs/PERFORMANCE.md). A port to another processor rests on a back end of
- * the toolchain for it.
+ * to 18 KiB of stack: a checksum makes its table of 16 KiB there, so every call that takes a
+ * checksum takes 12 KiB or more. The calls of the clock and of the peer table, sp_owners,
+ * sp_fmix32, sp_ring_is_sound and sp_store_create take less than 2 KiB. This is measured, not
+ * proved (docs/PERFORMANCE.md). A port to another processor rests on a back end of the toolchain
+ * for it.
  *
  * Every function may be given any numbers and any bytes: it ends with an answer or a numbered
  * refusal, and a refusal changes nothing that was lent, except that sp_handle writes an ERR frame
@@ -61,7 +61,6 @@ typedef uint32_t sp_result;
 #define SP_BAD_ARGUMENT 17   /* a number out of its range, an id twice, a tombstone with a value,
                               * words that are no clock or no sound table, or a list of
                               * deliveries that is not readable */
-#define SP_CONFLICT 30       /* two deliveries of a key that have equal stamps and differ */
 
 /* The name of a refusal's number, as "BAD_KEY": for SP_REFUSAL(r), or the number of an ERR frame.
  * "none" for 0, and "unknown" for a number that this header does not have. */
@@ -85,7 +84,6 @@ static inline const char *sp_refusal_name(uint32_t number) {
     case SP_SELF: return "SELF";
     case SP_BAD_RING: return "BAD_RING";
     case SP_BAD_ARGUMENT: return "BAD_ARGUMENT";
-    case SP_CONFLICT: return "CONFLICT";
     default: return "unknown";
     }
 }
@@ -117,10 +115,11 @@ uint32_t sp_fmix32(uint32_t h);
 
 /* ---- The clock ------------------------------------------------------------------------- */
 
-/* A hybrid logical clock is four words. Its phys, logical and node are a stamp; stamps go by
- * phys, then logical, then node. Words are no clock if there are more or fewer than four, or if
- * logical, node or the skew count is out of its range. A module keeps its clock over a restart:
- * one that starts anew may give a stamp twice. */
+/* A hybrid logical clock is four words. Its phys, logical and node are a stamp; stamps go by phys,
+ * then logical, then node (what decides at equal stamps is said below, with the store). Words are
+ * no clock if there are more or fewer than four, or if logical, node or the skew count is out of
+ * its range. A module keeps its clock over a restart: one that starts anew may give a stamp
+ * twice. */
 #define SP_CLOCK_WORDS 4
 #define SP_CLOCK_PHYS 0       /* a time, milliseconds */
 #define SP_CLOCK_LOGICAL 1    /* 0 to 65535, counts steps within one phys */
@@ -318,8 +317,12 @@ sp_result sp_write_err(uint32_t number, uint8_t *out, size_t out_len);
 /* ---- The store ------------------------------------------------------------------------- */
 
 /* A store of 1 to 100 slots is a buffer of exactly so many bytes: 16, and 596 for each slot. It
- * holds at most one entry of a key, the one with the greatest stamp, in the order of the keys.
- * docs/FORMAT.md draws the bytes. */
+ * holds, in the order of the keys, at most one entry of each: the one above all others that were
+ * offered and not refused. docs/FORMAT.md draws the bytes.
+ *
+ * Entries of a key go by their stamps, and those with one stamp by their contents: a tombstone is
+ * above every value; of two values the one with the greater byte where they first differ is above,
+ * or the longer one if it begins with the other. */
 #define SP_STORE_BYTES(slots) (16 + 596 * (size_t)(slots))
 
 /* Makes the buffer a store that holds nothing.
@@ -357,8 +360,8 @@ sp_result sp_store_entry(const uint8_t *store, size_t store_len, size_t i, uint6
 
 /* Answers of sp_store_offer. */
 #define SP_OFFER_STORED 0   /* its key was not held */
-#define SP_OFFER_REPLACED 1 /* the held stamp was below its own */
-#define SP_OFFER_KEPT 2     /* it was not: the store is as before */
+#define SP_OFFER_REPLACED 1 /* the held entry was below it */
+#define SP_OFFER_KEPT 2     /* the held entry was not below it: the store is as before */
 
 /* Offers an entry to the store; `phys`, `logical` and `node` are its stamp.
  *   SP_BAD_STORE        the store is not sound
@@ -393,7 +396,8 @@ sp_result sp_store_merge(uint8_t *receiver, size_t receiver_len, const uint8_t *
  *   SP_BAD_KEY          the key is not acceptable
  *   SP_VALUE_TOO_LARGE  the value has more than SP_VALUE_MAX bytes
  *   SP_CLOCK_SPENT      as sp_clock_send for PUT and DEL, and sp_clock_receive for REPL
- *   SP_OVERTAKEN        the stamp of a PUT or DEL is not above the one held for its key
+ *   SP_OVERTAKEN        the stamp of a PUT or DEL is not above the one held for its key, whatever
+ *                       it writes
  *   SP_STORE_FULL       the key is not held, and no slot is free */
 sp_result sp_handle(uint8_t *store, size_t store_len, uint64_t *clock, size_t clock_len,
                     uint64_t now, const uint8_t *frame, size_t frame_len, uint8_t *reply,
@@ -409,45 +413,36 @@ sp_result sp_handle(uint8_t *store, size_t store_len, uint64_t *clock, size_t cl
  *
  * Of what a module is sent, keep the REPL frames that sp_handle answered with OK. A module's own
  * PUT and DEL, and what came by sp_store_offer or sp_store_merge, are in no such list: the report
- * is on the list alone, and the module may hold an entry with a greater stamp than the winner's. */
+ * is on the list alone, and the module may hold an entry above the winner. */
 
 /* The answer is the number of deliveries in the list, 0 to SP_DELIVERIES_MAX.
  *   SP_BAD_ARGUMENT     the list is not readable */
 sp_result sp_deliveries(const uint8_t *list, size_t list_len);
 
-/* What sp_explain answers: a refusal from bit 32 on (0: none), and below it the winner's place or
- * the two places of SP_CONFLICT. Of the bits below it, those that no place takes are 0.
- * SP_IS_REFUSED, SP_REFUSAL and SP_ANSWER are for an sp_result, and not for this. */
-typedef uint64_t sp_explained;
-#define SP_EXPLAINED_IS_REFUSED(r) (SP_EXPLAINED_REFUSAL(r) != 0)
-#define SP_EXPLAINED_REFUSAL(r) ((uint32_t)((r) >> 32))
-#define SP_EXPLAINED_WINNER(r) ((uint32_t)(r) & 0xFFFFu)  /* without a refusal: bits 0 to 15 */
-#define SP_EXPLAINED_EARLIER(r) ((uint32_t)(r) & 0xFFFFu) /* of SP_CONFLICT: bits 0 to 15 */
-#define SP_EXPLAINED_LATER(r) ((uint32_t)(r) >> 16)       /* of SP_CONFLICT: bits 16 to 31 */
-#define SP_NO_DELIVERY 65535 /* the winner's place where no delivery is of the key */
+/* What sp_explain answers where no delivery is of the key. */
+#define SP_NO_DELIVERY 65535
 
 /* The bytes that it writes, one for each delivery. SP_WON is the winner's byte, and SP_OTHER_KEY
  * that of every delivery of another key, so of all where there is no winner. The others say why a
- * delivery of the key lost: by the first field in which its stamp and the winner's differ, or as
- * the same entry. */
+ * delivery of the key lost: by the first field in which its stamp and the winner's differ, by its
+ * contents, or as the same entry. */
 #define SP_WON 0
-#define SP_EARLIER_TIME 1 /* a lower phys */
-#define SP_LOWER_COUNT 2  /* the same phys, a lower logical */
-#define SP_LOWER_NODE 3   /* the same phys and logical, a lower node */
-#define SP_SAME_ENTRY 4   /* the winner's own entry, again */
-#define SP_OTHER_KEY 5    /* a delivery of another key */
+#define SP_EARLIER_TIME 1  /* a lower phys */
+#define SP_LOWER_COUNT 2   /* the same phys, a lower logical */
+#define SP_LOWER_NODE 3    /* the same phys and logical, a lower node */
+#define SP_SAME_ENTRY 4    /* the winner's own entry, again */
+#define SP_OTHER_KEY 5     /* a delivery of another key */
+#define SP_LOWER_CONTENT 6 /* the winner's stamp, but lower contents: a stamp was given twice */
 
-/* Names the winner among the deliveries of a key, and writes to `reasons` why each other one lost.
- * The winner is the delivery with the greatest stamp, the first one if it came again: the entry
- * that a new store holds after the key's deliveries were offered to it in their order. Of
- * SP_CONFLICT the two places are those of the pair whose later place is the lowest, and of several
- * such pairs of the one whose earlier place is the lowest.
+/* Names the winner among the deliveries of a key, and writes to `reasons` why each other one lost;
+ * the answer is the winner's place, or SP_NO_DELIVERY. The winner is the delivery whose entry
+ * is above all others of the key, the first one if it came again: the entry that a new store holds
+ * after the key's deliveries were offered to it in their order.
  *   SP_BAD_ARGUMENT     the list is not readable
  *   SP_BAD_KEY          the key is not acceptable
- *   SP_CONFLICT         two deliveries of the key have equal stamps, and differ in flag or value
  *   SP_NO_ROOM          `reasons` has fewer bytes than the list has deliveries */
-sp_explained sp_explain(const uint8_t *list, size_t list_len, const uint8_t *key, size_t key_len,
-                        uint8_t *reasons, size_t reasons_len);
+sp_result sp_explain(const uint8_t *list, size_t list_len, const uint8_t *key, size_t key_len,
+                     uint8_t *reasons, size_t reasons_len);
 
 #ifdef __cplusplus
 }

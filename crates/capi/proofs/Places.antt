@@ -8,7 +8,7 @@ use Rattle.wire.specs.Fill.{field}
 use Rattle.wire.proofs.Tests.{never}
 use Rattle.entry.specs.Entry.{Entry, entryOf}
 use Rattle.image.specs.Image.{entriesOf, sound}
-use Rattle.image.proofs.Compared.{distinct}
+use Rattle.wire.proofs.Compared.{distinct}
 use Rattle.store.specs.Lookup.{Finding, lookupAnswer, valuePart}
 use Rattle.store.specs.Lookup as lookup
 use Rattle.store.specs.Listing.{nth, listingFor, entryAnswer}

@@ -2,18 +2,15 @@
 // packs the answer.
 use capi_words::refused;
 use deliveries::Counted;
-use entry::Refusal;
 use explain::Explained;
 ghost use mathlib.Core.Path.{_≡_};
 ghost use Prim.Native.Nat.{_<_};
 ghost use Rattle.deliveries.specs.List.{countOf, countAnswer};
 ghost use Rattle.explain.specs.Explain.{answerOf, explainAnswer, afterExplain};
-ghost use Rattle.capi_audit.specs.Audit.{countWord, Small, explainedWord};
+ghost use Rattle.capi_audit.specs.Audit.{countWord, explainedWord};
 
 // The winner's place where no delivery is of the key.
-const NO_DELIVERY: u64 = 65_535;
-// A refusal stands above the two places.
-const ABOVE_PLACES: u64 = 4_294_967_296;
+const NO_DELIVERY: u32 = 65_535;
 
 fn counted(answer: Counted) -> u32
     requires { ⌜ countWord (countOf answer) < 4294967296 ⌝ }
@@ -33,24 +30,20 @@ pub extern "C" fn sp_deliveries(list: &[u8]) -> u32
     counted(deliveries::count(list))
 }
 
-fn explained(answer: Explained) -> u64
-    requires { ⌜ Small (answerOf answer) ⌝ }
+fn explained(answer: Explained) -> u32
+    requires { ⌜ explainedWord (answerOf answer) < 4294967296 ⌝ }
     ensures { λ r. ⌜ r ≡ explainedWord (answerOf answer) ⌝ }
 {
     match answer {
-        Explained::Winner(place) => place as u64,
+        Explained::Winner(place) => place as u32,
         Explained::NoDelivery => NO_DELIVERY,
-        Explained::Conflict { earlier, later } => {
-            let number = Refusal::Conflict.number() as u64;
-            number * ABOVE_PLACES + (later as u64) * 65_536 + (earlier as u64)
-        }
-        Explained::Refused(why) => (why.number() as u64) * ABOVE_PLACES,
+        Explained::Refused(why) => refused(why),
     }
 }
 
 // Which delivery of a key is in force, and why each other one is not.
 #[no_mangle]
-pub extern "C" fn sp_explain(list: &[u8], key: &[u8], reasons: &mut [u8]) -> u64
+pub extern "C" fn sp_explain(list: &[u8], key: &[u8], reasons: &mut [u8]) -> u32
     ensures told { λ r. ⌜ r ≡ explainedWord (explainAnswer (now (list .entry)) (now (key .entry)) (now (reasons .entry))) ⌝ }
     ensures left { λ _. ⌜ now (reasons .exit) ≡ afterExplain (now (list .entry)) (now (key .entry)) (now (reasons .entry)) ⌝ }
 {

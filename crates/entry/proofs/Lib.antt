@@ -1,3 +1,4 @@
 pub mod Order
 pub mod Accept
+pub mod EntryOrder
 pub mod Numbers

@@ -1,4 +1,4 @@
--- The orders of keys and stamps are strict and total, and which of two entries wins.
+-- The orders of keys and stamps are strict and total.
 use Prim.Native.Nat.{_<_}
 use native.Mathlib.Omega.{arith}
 use mathlib.Core.Path.{_≡_, _∙_}
@@ -7,10 +7,9 @@ use mathlib.Core.Bool.{Bool, true, false}
 use lib.Dec.{ltb}
 use borrow.Author.Tests.{ltb-true, ltb-false, lt-ltb, le-ltb, eq-eqb}
 use Rattle.wire.proofs.Tests.{clash, false-of}
-use Rattle.wire.proofs.Order.{lex, lex-true, lex-less, lex-same, lex-trans, lex-weak, lex-asym, lex-tied, bytesBelow-irrefl, bytesBelow-trans, bytesBelow-tied}
+use Rattle.wire.proofs.Order.{lex, lex-true, lex-less, lex-same, lex-trans, lex-asym, lex-tied, bytesBelow-irrefl, bytesBelow-trans, bytesBelow-tied}
 use Rattle.entry.specs.declared.Stamp.{Stamp}
 use Rattle.entry.specs.Order.{least, stampBelow}
-use Rattle.entry.specs.Entry.{Entry, Consistent, beats}
 use Rattle.entry.specs.Meaning.{KeysStrictlyOrdered, StampsStrictlyOrdered, StampOrderByField, LeastIsLeast}
 
 pub keys-strictly-ordered : KeysStrictlyOrdered
@@ -79,24 +78,3 @@ unfolding stampBelow
 stamp-last a b p l =
     rw
     (le-ltb (a .phys) (b .phys) (omega arith), eq-eqb (a .phys) (b .phys) p, le-ltb (a .logical) (b .logical) (omega arith), eq-eqb (a .logical) (b .logical) l)
-
-pub stampBelow-weak : (s t u : Stamp) → stampBelow s t ≡ false → stampBelow t u ≡ false → stampBelow s u ≡ false
-unfolding stampBelow lex
-stampBelow-weak s t u =
-    lex-weak (s .phys) (t .phys) (u .phys) _ _ _ (lex-weak (s .logical) (t .logical) (u .logical) _ _ _ (λ p q.
-    le-ltb (s .node) (u .node) (omega (arith, ltb-false (s .node) (t .node) p, ltb-false (t .node) (u .node) q))))
-
--- ---- which of two entries wins: the laws that the store and its history use
-pub beats-asym : (d e : Entry) → beats d e ≡ true → beats e d ≡ false
-unfolding beats
-beats-asym d e = stampBelow-asym (e .stamp) (d .stamp)
-
--- what does not beat is transitive
-pub beats-weak : (c d e : Entry) → beats c d ≡ false → beats d e ≡ false → beats c e ≡ false
-unfolding beats
-beats-weak c d e p q = stampBelow-weak (e .stamp) (d .stamp) (c .stamp) q p
-
--- consistent entries of a key of which neither beats the other are the same
-pub beats-tied : (d e : Entry) → Consistent d e → d .key ≡ e .key → beats d e ≡ false → beats e d ≡ false → d ≡ e
-unfolding beats
-beats-tied d e con k p q = con k (stampBelow-tied (d .stamp) (e .stamp) q p)

@@ -1,10 +1,11 @@
 -- An entry, when it is acceptable, and which of two entries of a key wins.
 use Prim.Native.Nat.{ℕ, _^_}
-use mathlib.Core.Bool.{Bool, cond, _&&_, _||_}
+use mathlib.Core.Bool.{Bool, true, false, cond, _&&_, _||_}
 use mathlib.Core.Path.{_≡_}
 use mathlib.Core.List.{List}
 use lib.ListN.{length}
 use lib.Dec.{ltb, leb, eqb}
+use Rattle.wire.specs.Order.{bytesBelow}
 use Rattle.entry.specs.declared.Stamp.{Stamp}
 use Rattle.entry.specs.Key.{badKey}
 use Rattle.entry.specs.Order.{stampBelow}
@@ -39,10 +40,17 @@ refusalOf e =
 abbrev pub Acceptable : Entry → Type 0
 Acceptable e = refusalOf e ≡ 0
 
--- the one definition of which of two entries of a key wins: the one with the stamp above (R118, R119)
-unfoldable pub beats : Entry → Entry → Bool
-beats e h = stampBelow (h .stamp) (e .stamp)
+-- the contents of d are below those of e: an active entry's are below a tombstone's, and with one
+-- flag the value decides, by bytes (R256)
+unfoldable pub contentBelow : Entry → Entry → Bool
+contentBelow d e =
+    cond (ltb (d .flag) (e .flag)) true
+    (cond (eqb (d .flag) (e .flag)) (bytesBelow (d .value) (e .value)) false)
 
--- equal key and stamp mean equal entry (R184)
-abbrev pub Consistent : Entry → Entry → Type 0
-Consistent d e = d .key ≡ e .key → d .stamp ≡ e .stamp → d ≡ e
+-- the one definition of which of two entries of a key wins: the one with the greater stamp, and at
+-- equal stamps the one with the higher contents (R118, R119, R256)
+unfoldable pub beats : Entry → Entry → Bool
+beats e h =
+    cond (stampBelow (h .stamp) (e .stamp)) true
+    (cond (stampBelow (e .stamp) (h .stamp)) false
+    (contentBelow h e))

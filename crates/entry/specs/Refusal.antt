@@ -3,7 +3,7 @@ use Prim.Native.Nat.{ℕ, _≤_, _<_}
 use Rattle.entry.specs.declared.Refusal.{Refusal}
 use Rattle.entry.specs.declared.Refusal.the-variants as refusal
 
-abbrev pub number : Refusal → ℕ  -- (R7, R199, R255)
+abbrev pub number : Refusal → ℕ  -- (R7, R199)
 number refusal.BadKey = 1
 number refusal.ValueTooLarge = 2
 number refusal.BadFrame = 3
@@ -21,11 +21,10 @@ number refusal.PeerKnown = 14
 number refusal.OwnPeer = 15
 number refusal.BadRing = 16
 number refusal.BadArgument = 17
-number refusal.Conflict = 30
 
 -- the highest of them (R7)
 abbrev pub lastNumber : ℕ
-lastNumber = 30
+lastNumber = 17
 
 -- from 1 to the last (R168)
 abbrev pub Numbered : ℕ → Type 0

@@ -1,13 +1,16 @@
-// What every part of the store shares: the refusal numbers, the limits, the key rule, stamps, and
-// when an entry is acceptable.
+// What every part of the store shares: the refusal numbers, the limits, the key rule, stamps, when
+// an entry is acceptable, and which of two entries of a key wins.
+use wire::Comparison;
+use wire::compare;
 use wire::starts_with;
 ghost use mathlib.Core.Path.{_≡_};
 ghost use mathlib.Core.Bool.{not};
-ghost use Prim.Native.Nat.{max};
+ghost use mathlib.Core.List.{List};
+ghost use Prim.Native.Nat.{ℕ, max};
 ghost use Rattle.entry.specs.Refusal.{number};
 ghost use Rattle.entry.specs.Key.{reserved, badKey};
 ghost use Rattle.entry.specs.Order.{least, stampBelow};
-ghost use Rattle.entry.specs.Entry.{entryOf, refusalOf};
+ghost use Rattle.entry.specs.Entry.{entryOf, refusalOf, beats};
 ghost use Rattle.entry.specs.Acceptance.{refusalNumber};
 
 // The longest key and value, in bytes.
@@ -41,7 +44,6 @@ pub enum Refusal {
     OwnPeer,
     BadRing,
     BadArgument,
-    Conflict,
 }
 
 impl Refusal {
@@ -66,7 +68,6 @@ impl Refusal {
             Refusal::OwnPeer => 15,
             Refusal::BadRing => 16,
             Refusal::BadArgument => 17,
-            Refusal::Conflict => 30,
         }
     }
 }
@@ -174,4 +175,34 @@ pub fn judge(key: &[u8], value: &[u8], flag: u8, stamp: Stamp) -> Acceptance
         }
     }
     Acceptance::Acceptable
+}
+
+// Whether an entry wins over another of its key: by the stamp, and at equal stamps by the contents.
+// The keys have no part in it.
+pub fn beats(
+    value: &[u8],
+    flag: u8,
+    stamp: Stamp,
+    other_value: &[u8],
+    other_flag: u8,
+    other_stamp: Stamp,
+) -> bool
+    ensures { λ r. ⌜ ((j k : List ℕ)
+        → r ≡ beats (entryOf j (now (value .entry)) flag stamp) (entryOf k (now («other_value» .entry)) «other_flag» «other_stamp»)) ⌝ }
+{
+    if other_stamp.is_below(stamp) {
+        return true;
+    }
+    if stamp.is_below(other_stamp) {
+        return false;
+    }
+    if other_flag != flag {
+        return other_flag < flag;
+    }
+    let values = compare(other_value, value);
+    match values {
+        Comparison::Below => true,
+        Comparison::Same => false,
+        Comparison::Above => false,
+    }
 }

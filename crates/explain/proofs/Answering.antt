@@ -15,10 +15,10 @@ use Rattle.deliveries.specs.declared.Counted.{Counted}
 use Rattle.deliveries.specs.declared.Counted.the-variants.{Deliveries, Refused}
 use Rattle.deliveries.specs.List.{deliveriesOf, deliveries, refused as notCounted, countOf, counted, countAnswer}
 use Rattle.explain.specs.Winner.{Placed, winner}
-use Rattle.explain.specs.Conflict.{Pair, firstConflict}
 use Rattle.explain.specs.declared.walk.Best.{Best}
-use Rattle.explain.specs.Explain.{Answer, won, noDelivery, refusedFor, refused, isRefused, named, explainFor, explainAnswer, reported, afterExplain}
-use Rattle.explain.specs.Walk.{entriesIn, Readable, bestOf}
+use Rattle.explain.specs.Explain.{Answer, won, noDelivery, refused, isRefused, named, explainFor, explainAnswer, reported, afterExplain}
+use Rattle.explain.specs.Walk.{entriesIn, Readable, Keeps}
+use Rattle.explain.proofs.Walking.{not-found}
 use Rattle.explain.proofs.Refusals.{not-refused, answer-for, report-writes}
 
 -- ---- what the count says
@@ -63,37 +63,32 @@ module _ (list k out : List ℕ) where
     says-bad-key b = refuses (refused 1) refl (sym (found-for ∙ rw b refl))
 
     module _ (b : badKey k ≡ false) where
-      pub says-conflict : (p : Pair) → some p ≡ firstConflict k (entriesIn list) → Says (refusedFor 30 (p .earlier) (p .later)) out
+      pub says-no-room : length out < length (entriesIn list) → Says (refused 4) out
       unfolding isRefused
-      says-conflict p f = refuses (refusedFor 30 (p .earlier) (p .later)) refl (sym (found-for ∙ rw (b, ← f) refl))
+      says-no-room l = refuses (refused 4) refl (sym (found-for ∙ rw (b, lt-ltb (length out) (length (entriesIn list)) l) refl))
 
-      module _ (f : none ≡ firstConflict k (entriesIn list)) where
-        pub says-no-room : length out < length (entriesIn list) → Says (refused 4) out
-        unfolding isRefused
-        says-no-room l = refuses (refused 4) refl (sym (found-for ∙ rw (b, ← f, lt-ltb (length out) (length (entriesIn list)) l) refl))
+      module _ (l : length (entriesIn list) ≤ length out) where
+        named-answer : explainAnswer list k out ≡ named (winner k (entriesIn list))
+        named-answer = found-for ∙ rw (b, le-ltb (length out) (length (entriesIn list)) l) refl
 
-        module _ (l : length (entriesIn list) ≤ length out) where
-          named-answer : explainAnswer list k out ≡ named (winner k (entriesIn list))
-          named-answer = found-for ∙ rw (b, ← f, le-ltb (length out) (length (entriesIn list)) l) refl
+        written : (after : List ℕ) → after ≡ reported k (entriesIn list) out → after ≡ afterExplain list k out
+        unfolding afterExplain entriesIn
+        written after h = h ∙ rw (ap isRefused named-answer ∙ not-refused (winner k (entriesIn list))) refl
 
-          written : (after : List ℕ) → after ≡ reported k (entriesIn list) out → after ≡ afterExplain list k out
-          unfolding afterExplain entriesIn
-          written after h = h ∙ rw (ap isRefused named-answer ∙ not-refused (winner k (entriesIn list))) refl
+        says-named : (a : Answer) → a ≡ named (winner k (entriesIn list)) → (after : List ℕ) → after ≡ reported k (entriesIn list) out → Says a after
+        says-named a h after w = (h ∙ sym named-answer, written after w)
 
-          says-named : (a : Answer) → a ≡ named (winner k (entriesIn list)) → (after : List ℕ) → after ≡ reported k (entriesIn list) out → Says a after
-          says-named a h after w = (h ∙ sym named-answer, written after w)
+        best-won : (o : Option Placed) (x : Best) → Keeps list o x → x .found ≡ true → won (x .place) ≡ named o
+        best-won none x h t = clash t (not-found h)
+        best-won (some w) x h t = ap won (h .1)
 
-          best-won : (o : Option Placed) (x : Best) → x ≡ bestOf o → x .found ≡ true → won (x .place) ≡ named o
-          best-won none x h t = clash t (ap (λ (y : Best). y .found) h)
-          best-won (some w) x h t = ap (λ (y : Best). won (y .place)) h
+        best-none : (o : Option Placed) (x : Best) → Keeps list o x → x .found ≡ false → noDelivery ≡ named o
+        best-none none x h t = refl
+        best-none (some w) x h t = clash (h .0) t
 
-          best-none : (o : Option Placed) (x : Best) → x ≡ bestOf o → x .found ≡ false → noDelivery ≡ named o
-          best-none none x h t = refl
-          best-none (some w) x h t = clash (ap (λ (y : Best). y .found) h) t
+        module _ (x : Best) (h : Keeps list (winner k (entriesIn list)) x) (after : List ℕ) (w : after ≡ reported k (entriesIn list) out) where
+          pub says-won : x .found ≡ true → Says (won (x .place)) after
+          says-won t = says-named (won (x .place)) (best-won (winner k (entriesIn list)) x h t) after w
 
-          module _ (x : Best) (h : x ≡ bestOf (winner k (entriesIn list))) (after : List ℕ) (w : after ≡ reported k (entriesIn list) out) where
-            pub says-won : x .found ≡ true → Says (won (x .place)) after
-            says-won t = says-named (won (x .place)) (best-won (winner k (entriesIn list)) x h t) after w
-
-            pub says-none : x .found ≡ false → Says noDelivery after
-            says-none t = says-named noDelivery (best-none (winner k (entriesIn list)) x h t) after w
+          pub says-none : x .found ≡ false → Says noDelivery after
+          says-none t = says-named noDelivery (best-none (winner k (entriesIn list)) x h t) after w

@@ -4,8 +4,5 @@ pub mod Winning
 pub mod Walking
 pub mod Holding
 pub mod Reasons
-pub mod Marking
-pub mod Pairs
-pub mod ConflictMeanings
 pub mod Refusals
 pub mod Answering

@@ -8,8 +8,7 @@ use mathlib.Core.List.{List, [], _∷_}
 use mathlib.Core.Option.{Option, none, some}
 use Rattle.wire.proofs.Tests.{test, clash, and-true}
 use Rattle.entry.specs.Entry.{Entry, beats}
-use Rattle.entry.proofs.Order.{beats-asym, beats-weak}
-use Rattle.store.proofs.HeldLaws.{beats-irrefl}
+use Rattle.entry.proofs.EntryOrder.{beats-asym, beats-weak, beats-irrefl}
 use Rattle.explain.specs.Winner.{isOf, unbeaten, Placed, firstUnbeaten, winner}
 
 -- the best so far after one more delivery, at place i

@@ -16,9 +16,7 @@ use Rattle.entry.specs.Entry.{Entry}
 use Rattle.deliveries.specs.List.{deliveriesOf}
 use Rattle.explain.specs.Winner.{Placed, winner}
 use Rattle.explain.specs.Reason.{reasonsFor}
-use Rattle.explain.specs.Conflict.{Pair, firstConflict}
-use Rattle.explain.specs.Explain.{Answer, won, noDelivery, refusedFor, refused, isRefused, named, conflictOr, explainFor, explainAnswer}
-use Rattle.explain.specs.Explain.{reported, afterExplain}
+use Rattle.explain.specs.Explain.{Answer, won, noDelivery, refused, isRefused, named, explainFor, explainAnswer, reported, afterExplain}
 use Rattle.explain.specs.Meaning.{ReportRefused, ReportWrites}
 use Rattle.explain.proofs.Walking.{length-reasons}
 
@@ -28,25 +26,18 @@ module _ (k : List ℕ) (room : ℕ) (P : Option (List Entry) → Answer → Typ
   pub record Checks : Type 0 where
     pub unreadable : P none (refused 17)
     pub bad-key : (es : List Entry) → badKey k ≡ true → P (some es) (refused 1)
-    pub conflict : (es : List Entry) (p : Pair) → badKey k ≡ false → firstConflict k es ≡ some p → P (some es) (refusedFor 30 (p .earlier) (p .later))
-    pub no-room : (es : List Entry) → badKey k ≡ false → firstConflict k es ≡ none → room < length es → P (some es) (refused 4)
-    pub answered : (es : List Entry) → badKey k ≡ false → firstConflict k es ≡ none → length es ≤ room → P (some es) (named (winner k es))
+    pub no-room : (es : List Entry) → badKey k ≡ false → room < length es → P (some es) (refused 4)
+    pub answered : (es : List Entry) → badKey k ≡ false → length es ≤ room → P (some es) (named (winner k es))
 
-  by-room : (c : Checks) (es : List Entry) → badKey k ≡ false → firstConflict k es ≡ none
-      → P (some es) (cond (ltb room (length es)) (refused 4) (named (winner k es)))
-  by-room c es b f = elim (test (ltb room (length es))) [
-    | inl r ↦ rw r (c .no-room es b f (ltb-true room (length es) r))
-    | inr r ↦ rw r (c .answered es b f (ltb-false room (length es) r))
+  by-room : (c : Checks) (es : List Entry) → badKey k ≡ false → P (some es) (cond (ltb room (length es)) (refused 4) (named (winner k es)))
+  by-room c es b = elim (test (ltb room (length es))) [
+    | inl r ↦ rw r (c .no-room es b (ltb-true room (length es) r))
+    | inr r ↦ rw r (c .answered es b (ltb-false room (length es) r))
   ]
-
-  by-pair : (c : Checks) (es : List Entry) → badKey k ≡ false → (o : Option Pair) → firstConflict k es ≡ o
-      → P (some es) (conflictOr o (cond (ltb room (length es)) (refused 4) (named (winner k es))))
-  by-pair c es b none f = by-room c es b f
-  by-pair c es b (some p) f = c .conflict es p b f
 
   pub by-check : Checks → (o : Option (List Entry)) → P o (explainFor o k room)
   by-check c none = c .unreadable
-  by-check c (some es) = elim (test (badKey k)) [ inl b ↦ rw b (c .bad-key es b) | inr b ↦ rw b (by-pair c es b (firstConflict k es) refl) ]
+  by-check c (some es) = elim (test (badKey k)) [ inl b ↦ rw b (c .bad-key es b) | inr b ↦ rw b (by-room c es b) ]
 
 refused-same : (m n : ℕ) → refused m ≡ refused n → m ≡ n
 refused-same m n h = cc
@@ -79,9 +70,8 @@ module _ (list k out : List ℕ) where
   is-unreadable = said (λ o a. a ≡ refused 17 → o ≡ none) (record {
     unreadable = λ h. refl;
     bad-key = λ es b h. apart 1 17 (omega arith) h;
-    conflict = λ es p b f h. never (cc);
-    no-room = λ es b f l h. apart 4 17 (omega arith) h;
-    answered = λ es b f l h. named-not (winner k es) (refused 17) refl h;
+    no-room = λ es b l h. apart 4 17 (omega arith) h;
+    answered = λ es b l h. named-not (winner k es) (refused 17) refl h;
   })
 
   is-bad-key : explainAnswer list k out ≡ refused 1 → (es : List Entry) × (deliveriesOf list ≡ some es) × (badKey k ≡ true)
@@ -89,22 +79,20 @@ module _ (list k out : List ℕ) where
   is-bad-key = said (λ o a. a ≡ refused 1 → (es : List Entry) × (o ≡ some es) × (badKey k ≡ true)) (record {
     unreadable = λ h. apart 17 1 (omega arith) h;
     bad-key = λ es b h. (es, refl, b);
-    conflict = λ es p b f h. never (cc);
-    no-room = λ es b f l h. apart 4 1 (omega arith) h;
-    answered = λ es b f l h. named-not (winner k es) (refused 1) refl h;
+    no-room = λ es b l h. apart 4 1 (omega arith) h;
+    answered = λ es b l h. named-not (winner k es) (refused 1) refl h;
   })
 
   abbrev TooLong : Option (List Entry) → Type 0
-  TooLong o = (es : List Entry) × (o ≡ some es) × (badKey k ≡ false) × (firstConflict k es ≡ none) × (length out < length es)
+  TooLong o = (es : List Entry) × (o ≡ some es) × (badKey k ≡ false) × (length out < length es)
 
   is-no-room : explainAnswer list k out ≡ refused 4 → TooLong (deliveriesOf list)
   unfolding isRefused
   is-no-room = said (λ o a. a ≡ refused 4 → TooLong o) (record {
     unreadable = λ h. apart 17 4 (omega arith) h;
     bad-key = λ es b h. apart 1 4 (omega arith) h;
-    conflict = λ es p b f h. never (cc);
-    no-room = λ es b f l h. (es, refl, b, f, l);
-    answered = λ es b f l h. named-not (winner k es) (refused 4) refl h;
+    no-room = λ es b l h. (es, refl, b, l);
+    answered = λ es b l h. named-not (winner k es) (refused 4) refl h;
   })
 
   which : (n : ℕ) → explainAnswer list k out ≡ refused n → (n ≡ 17) ⊎ (n ≡ 1) ⊎ (n ≡ 4)
@@ -112,22 +100,20 @@ module _ (list k out : List ℕ) where
   which n = said (λ o a. a ≡ refused n → (n ≡ 17) ⊎ (n ≡ 1) ⊎ (n ≡ 4)) (record {
     unreadable = λ h. inl (sym (refused-same 17 n h));
     bad-key = λ es b h. inr (inl (sym (refused-same 1 n h)));
-    conflict = λ es p b f h. never (cc);
-    no-room = λ es b f l h. inr (inr (sym (refused-same 4 n h)));
-    answered = λ es b f l h. named-not (winner k es) (refused n) refl h;
+    no-room = λ es b l h. inr (inr (sym (refused-same 4 n h)));
+    answered = λ es b l h. named-not (winner k es) (refused n) refl h;
   })
 
 pub report-refused : ReportRefused
 report-refused list k out = record {
   unreadable = (is-unreadable list k out, answer-for list k out none);
   bad-key = (is-bad-key list k out, λ r. answer-for list k out (some (r .0)) (r .1) ∙ rw (r .2) refl);
-  no-room = (is-no-room list k out, λ r. answer-for list k out (some (r .0)) (r .1) ∙ rw (r .2, r .3, lt-ltb (length out) (length (r .0)) (r .4)) refl);
+  no-room = (is-no-room list k out, λ r. answer-for list k out (some (r .0)) (r .1) ∙ rw (r .2, lt-ltb (length out) (length (r .0)) (r .3)) refl);
   numbers = which list k out;
 }
 
 -- ---- an answer with no refusal
 pub record Unrefused (k : List ℕ) (es : List Entry) (room : ℕ) (a : Answer) : Type 0 where
-  pub alike : firstConflict k es ≡ none
   pub fits : length es ≤ room
   pub names : named (winner k es) ≡ a
 
@@ -143,9 +129,8 @@ unrefused list k out es a d h n =
     let s = said list k out (λ o b. isRefused b ≡ false → OfAll (λ fs. Unrefused k fs (length out) b) o) (record {
       unreadable = λ r. tt;
       bad-key = λ fs b r. clash refl r;
-      conflict = λ fs p b f r. clash refl r;
-      no-room = λ fs b f l r. clash refl r;
-      answered = λ fs b f l r. record { alike = f; fits = l; names = refl };
+      no-room = λ fs b l r. clash refl r;
+      answered = λ fs b l r. record { fits = l; names = refl };
     }) in
     (rw (d, h) at s) n
 

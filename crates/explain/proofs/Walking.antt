@@ -2,42 +2,60 @@
 use Prim.Native.Nat.{ℕ, zero, suc, _+_, _-_, _≤_, _<_}
 use native.Mathlib.Omega.{arith}
 use native.Mathlib.Numerals.{add-one}
-use mathlib.Core.Path.{_≡_, refl, sym, ap, _∙_}
+use mathlib.Core.Path.{_≡_, refl, sym, ap, _∙_, subst}
 use mathlib.Core.Logic.{inl, inr}
-use mathlib.Core.Bool.{_&&_}
+use mathlib.Core.Bool.{true, false, _&&_}
 use mathlib.Core.List.{List, [], _∷_, _++_}
 use mathlib.Core.Option.{Option, none, some, Option·none-ne-some, Option·some-injective}
 use lib.ListN.{length, take, drop, getD, set, length-drop, length-replicate, getD-replicate, drop-of-length-le}
 use lib.Seq.{take-all, drop-drop}
+use Rattle.wire.specs.Fill.{field}
 use Rattle.wire.specs.Order.{sameBytes}
 use Rattle.wire.proofs.Tests.{test}
 use Rattle.wire.proofs.Fill.{copy-step}
-use Rattle.wire.proofs.Fields.{rest}
-use Rattle.entry.specs.Order.{stampBelow}
 use Rattle.entry.specs.Entry.{Entry, beats}
 use Rattle.store.specs.Listing.{nth}
 use Rattle.store.proofs.Listings.{nth-there, nth-within}
 use Rattle.deliveries.specs.Cut.{firstLength}
 use Rattle.deliveries.specs.List.{maxDeliveries, firstEntry}
-use Rattle.deliveries.proofs.Cutting.{begins, first-long, first-within}
+use Rattle.deliveries.proofs.Cutting.{Begins, begins, first-long, first-within}
 use Rattle.deliveries.proofs.Runs.{Run, readable-run}
 use Rattle.explain.specs.declared.walk.Seen.{Seen}
 use Rattle.explain.specs.declared.walk.Best.{Best}
 use Rattle.explain.specs.Winner.{isOf, Placed, winner}
 use Rattle.explain.specs.Reason.{otherKey, byteOf, bytesFrom, reasonsFor}
 use Rattle.explain.specs.Explain.{reported}
-use Rattle.explain.specs.Walk.{entriesIn, Readable, seenIn, seen, isBetter, nextBest, bestOf, byteBy}
+use Rattle.explain.specs.Walk.{entriesIn, Readable, seen, seenEntry, Alike, nothingYet, Keeps, isBetter, nextBest, byteBy}
+use Rattle.explain.proofs.Seeing.{best-other, best-first, best-by-order, best-stays, best-taken, alike-beats, alike-reason}
 use Rattle.explain.proofs.OneWalk.{bestAfter, bestOver, winner-over}
 use Rattle.explain.proofs.Winning.{none-of-key}
 
--- what is seen of the delivery e at the front
-abbrev pub sight : List ℕ → Entry → ℕ → Seen
-sight k e n = record { matches = isOf k e; stamp = e .stamp; end = n }
+-- what was seen of the delivery e
+pub record Sees (list k : List ℕ) (e : Entry) (x : Seen) : Type 0 where
+  pub matches : x .matches ≡ isOf k e
+  pub alike : Alike (seenEntry list x) e
 
-sees : (s k : List ℕ) (e : Entry) → firstEntry s ≡ some e → seen s k ≡ sight k e (firstLength s)
+-- a part of the bytes from an offset on, as a part of all
+part-from : (at a w : ℕ) (s : List ℕ) → field (at + a) w s ≡ field a w (drop at s)
+unfolding field
+part-from at a w s = sym (ap (take w) (drop-drop a at s))
+
+-- the same by its two ends
+value-from : (at a w : ℕ) (s : List ℕ) → field (at + a) (at + a + w - (at + a)) s ≡ field a w (drop at s)
+value-from at a w s = let z : at + a + w - (at + a) ≡ w = omega arith in ap (λ (n : ℕ). field (at + a) n s) z ∙ part-from at a w s
+
+sees-in : (s k : List ℕ) (at : ℕ) (e : Entry) (b : Begins (drop at s) e) → Sees s k e (seen s at k) × (seen s at k .next ≡ at + firstLength (drop at s))
 unfolding seen isOf
-sees s k e h = let b = begins s e h in
-    ap (seenIn s k) (b .is) ∙ (λ i. record { matches = sameBytes k (b .key i); stamp = e .stamp; end = firstLength s })
+sees-in s k at e b = rw (b .is) (
+  record {
+    matches = ap (sameBytes k) (part-from at (b .ka) (b .kl) s ∙ b .key);
+    alike = record { value = value-from at (b .va) (b .vl) s ∙ b .value; flag = refl; stamp = refl };
+  },
+  refl,
+)
+
+sees : (s k : List ℕ) (at : ℕ) (e : Entry) → firstEntry (drop at s) ≡ some e → Sees s k e (seen s at k) × (seen s at k .next ≡ at + firstLength (drop at s))
+sees s k at e h = sees-in s k at e (begins (drop at s) e h)
 
 -- ---- where a walk stands: at an offset, before the delivery at place i
 pub record Stands (s : List ℕ) (es : List Entry) (at i : ℕ) : Type 0 where
@@ -56,28 +74,25 @@ stands-first s r = record { run = readable-run s (entriesIn s) r .0; within = om
 pub record Step (s k : List ℕ) (es : List Entry) (at i : ℕ) (x : Seen) : Type 0 where
   pub entry : Entry
   pub is : drop i es ≡ entry ∷ drop (i + 1) es
-  pub first : firstEntry (drop at s) ≡ some entry
-  pub saw : x ≡ sight k entry (x .end)
+  pub saw : Sees s k entry x
   pub more : i < length es
-  pub some-bytes : 0 < x .end
-  pub next : Stands s es (at + x .end) (i + 1)
+  pub farther : at < x .next
+  pub next : Stands s es (x .next) (i + 1)
 
 module _ {s : List ℕ} {es : List Entry} {at i : ℕ} (w : Stands s es at i) where
-  step-in : (ds : List Entry) → drop i es ≡ ds → Run ds (drop at s) → at < length s
-      → (k : List ℕ) (x : Seen) → x ≡ seen (take (length s - at) (drop at s)) k → Step s k es at i x
+  step-in : (ds : List Entry) → drop i es ≡ ds → Run ds (drop at s) → at < length s → (k : List ℕ) (x : Seen) → x ≡ seen s at k → Step s k es at i x
   step-in [] q r l k x h = absurd (omega (arith, length-drop at s, r))
   step-in (e ∷ ds) q r l k x h =
-      let v = h ∙ ap (λ (t : List ℕ). seen t k) (rest at s) ∙ sees (drop at s) k e (r .0) in
-      let n : x .end ≡ firstLength (drop at s) = ap (λ (y : Seen). y .end) v in
+      let v = sees s k at e (r .0) in
+      let n : x .next ≡ at + firstLength (drop at s) = ap (λ (y : Seen). y .next) h ∙ v .1 in
       let d : drop (i + 1) es ≡ ds = sym (drop-drop 1 i es) ∙ ap (drop 1) q in
       let m : length (drop i es) ≡ suc (length ds) = ap length q in
       record {
         entry = e;
         is = q ∙ ap (_∷_ e) (sym d);
-        first = r .0;
-        saw = v ∙ ap (λ (j : ℕ). sight k e j) (sym n);
+        saw = rw h (v .0);
         more = omega (arith, length-drop i es, m);
-        some-bytes = omega (arith, n, first-long (drop at s) e (r .0));
+        farther = omega (arith, n, first-long (drop at s) e (r .0));
         next = record {
           run = rw (n, d, ← drop-drop (firstLength (drop at s)) at s) (r .1);
           within = omega (arith, n, length-drop at s, first-within (drop at s), l);
@@ -86,7 +101,7 @@ module _ {s : List ℕ} {es : List Entry} {at i : ℕ} (w : Stands s es at i) wh
       }
 
   -- a turn of the walk, with what a call of peek answered
-  pub step : at < length s → (k : List ℕ) (x : Seen) → x ≡ seen (take (length s - at) (drop at s)) k → Step s k es at i x
+  pub step : at < length s → (k : List ℕ) (x : Seen) → x ≡ seen s at k → Step s k es at i x
   step l k x h = step-in (drop i es) refl (w .run) l k x h
 
   end-in : (ds : List Entry) → Run ds (drop at s) → length s ≤ at → ds ≡ []
@@ -100,31 +115,62 @@ module _ {s : List ℕ} {es : List Entry} {at i : ℕ} (w : Stands s es at i) wh
       omega (arith, length-drop i es, d, w .place)
 
 -- ---- the best so far
-next-is : (k : List ℕ) (o : Option Placed) (i : ℕ) (e : Entry) (n : ℕ) → nextBest (bestOf o) i (sight k e n) ≡ bestOf (bestAfter k o i e)
-unfolding nextBest isBetter beats
-next-is k none i e n = elim (test (isOf k e)) [ inl p ↦ rw p | inr p ↦ rw p ]
-next-is k (some w) i e n = elim (test (isOf k e && stampBelow (w .entry .stamp) (e .stamp))) [ inl p ↦ rw p | inr p ↦ rw p ]
+pub not-found : {l : Best} → l ≡ nothingYet → l .found ≡ false
+not-found q = ap (λ (y : Best). y .found) q
+
+module _ (list k : List ℕ) (l : Best) (e : Entry) (i : ℕ) (x : Seen) (v : Sees list k e x) where
+  -- it is taken, or the best before it stays
+  taken : isBetter list l x ≡ true → Keeps list (some (record { place = i; entry = e })) (nextBest list l i x)
+  taken b = subst (λ y. Keeps list (some (record { place = i; entry = e })) y) (best-taken list l x i b) (refl, refl, v .alike)
+
+  stays : (o : Option Placed) → Keeps list o l → isBetter list l x ≡ false → Keeps list o (nextBest list l i x)
+  stays o q b = subst (λ y. Keeps list o y) (best-stays list l x i b) q
+
+  better-first : l .found ≡ false → isBetter list l x ≡ isOf k e
+  better-first f = elim (test (isOf k e)) [
+    | inl p ↦ sym (best-first list l x (v .matches ∙ p) f) ∙ sym p
+    | inr p ↦ sym (best-other list l x (v .matches ∙ p)) ∙ sym p
+  ]
+
+  better-than : (w : Placed) → Keeps list (some w) l → isBetter list l x ≡ isOf k e && beats e (w .entry)
+  better-than w q = elim (test (isOf k e)) [
+    | inl p ↦ rw p (sym (best-by-order list l x (v .matches ∙ p) (q .0)) ∙ alike-beats (v .alike) (q .2))
+    | inr p ↦ rw p (sym (best-other list l x (v .matches ∙ p)))
+  ]
+
+  -- what is kept after one more delivery
+  next-kept : (o : Option Placed) → Keeps list o l → Keeps list (bestAfter k o i e) (nextBest list l i x)
+  next-kept none q = elim (test (isOf k e)) [
+    | inl p ↦ rw p (taken (better-first (not-found q) ∙ p))
+    | inr p ↦ rw p (stays none q (better-first (not-found q) ∙ p))
+  ]
+  next-kept (some w) q = elim (test (isOf k e && beats e (w .entry))) [
+    | inl p ↦ rw p (taken (better-than w q ∙ p))
+    | inr p ↦ rw p (stays (some w) q (better-than w q ∙ p))
+  ]
 
 -- the best after i deliveries is such that the others will make the winner of it
-pub SoFar : List ℕ → List Entry → ℕ → Best → Type 0
-SoFar k es i l = (o : Option Placed) × (l ≡ bestOf o) × (bestOver k o i (drop i es) ≡ winner k es)
+pub SoFar : List ℕ → List ℕ → List Entry → ℕ → Best → Type 0
+SoFar list k es i l = (o : Option Placed) × Keeps list o l × (bestOver k o i (drop i es) ≡ winner k es)
 
-pub so-far-first : (k : List ℕ) (es : List Entry) → SoFar k es 0 (bestOf none)
+pub so-far-first : (list k : List ℕ) (es : List Entry) → SoFar list k es 0 nothingYet
 unfolding SoFar
-so-far-first k es = (none, refl, winner-over k es)
+so-far-first list k es = (none, refl, winner-over k es)
 
-pub so-far-next : {s k : List ℕ} {es : List Entry} {at i : ℕ} {x : Seen} (t : Step s k es at i x) (l : Best) → SoFar k es i l
-    → SoFar k es (i + 1) (nextBest l i x)
+pub so-far-next : {s k : List ℕ} {es : List Entry} {at i : ℕ} {x : Seen} (t : Step s k es at i x) (l : Best) → SoFar s k es i l
+    → SoFar s k es (i + 1) (nextBest s l i x)
 unfolding SoFar bestOver
-so-far-next {k = k} {es} {i = i} {x} t l (o, q, h) = (
+so-far-next {s} {k} {es} {i = i} {x} t l (o, q, h) = (
   bestAfter k o i (t .entry),
-  ap (λ (y : Best). nextBest y i x) q ∙ ap (nextBest (bestOf o) i) (t .saw) ∙ next-is k o i (t .entry) (x .end),
+  next-kept s k l (t .entry) i x (t .saw) o q,
   ap (λ (j : ℕ). bestOver k (bestAfter k o i (t .entry)) j (drop (i + 1) es)) (add-one i) ∙ ap (bestOver k o i) (sym (t .is)) ∙ h,
 )
 
-pub so-far-end : (k : List ℕ) (es : List Entry) (i : ℕ) (l : Best) → SoFar k es i l → i ≡ length es → l ≡ bestOf (winner k es)
+pub so-far-end : (list k : List ℕ) (es : List Entry) (i : ℕ) (l : Best) → SoFar list k es i l → i ≡ length es → Keeps list (winner k es) l
 unfolding SoFar bestOver
-so-far-end k es i l (o, q, h) e = let z : length es ≤ i = omega arith in q ∙ ap bestOf (ap (bestOver k o i) (sym (drop-of-length-le es z)) ∙ h)
+so-far-end list k es i l (o, q, h) e =
+    let z : length es ≤ i = omega arith in
+    rw (sym (ap (bestOver k o i) (sym (drop-of-length-le es z)) ∙ h)) q
 
 -- ---- the bytes
 length-bytes : (k : List ℕ) (w : Placed) (i : ℕ) (es : List Entry) → length (bytesFrom k w i es) ≡ length es
@@ -155,24 +201,23 @@ module _ (k : List ℕ) (es : List Entry) (i : ℕ) (d : Entry) (n : nth i es �
   pub other-at : getD (reasonsFor k es none) i 0 ≡ otherKey
   other-at = getD-replicate (length es) i otherKey 0 (nth-within i es d n)
 
-  byte-for : (o : Option Placed) → winner k es ≡ o → (m : ℕ) → getD (reasonsFor k es o) i 0 ≡ byteBy (bestOf o) i (sight k d m)
+  byte-for : (list : List ℕ) (o : Option Placed) → winner k es ≡ o → (l : Best) → Keeps list o l → (x : Seen) → Sees list k d x
+      → getD (reasonsFor k es o) i 0 ≡ byteBy list l i x
   unfolding byteBy byteOf
-  byte-for none h m = rw (none-of-key k es h i d n) other-at
-  byte-for (some w) h m = byte-at w
+  byte-for list none h l q x v = rw (v .matches, none-of-key k es h i d n) other-at
+  byte-for list (some w) h l q x v = byte-at w ∙ rw (v .matches, q .1, alike-reason (q .2) (v .alike))
 
 -- ---- the bytes are written one after the other
 module _ (k : List ℕ) (es : List Entry) (out : List ℕ) where
   abbrev pub bytes : List ℕ
   bytes = reasonsFor k es (winner k es)
 
-  pub write-turn : {s : List ℕ} {at i : ℕ} {x : Seen} (t : Step s k es at i x) → length es ≤ length out → (l : Best) → l ≡ bestOf (winner k es)
-      → (b : ℕ) → b ≡ byteBy l i x → (r : List ℕ) → r ≡ take i bytes ++ drop i out
+  pub write-turn : {s : List ℕ} {at i : ℕ} {x : Seen} (t : Step s k es at i x) → length es ≤ length out → (l : Best) → Keeps s (winner k es) l
+      → (b : ℕ) → b ≡ byteBy s l i x → (r : List ℕ) → r ≡ take i bytes ++ drop i out
       → set r i b ≡ take (i + 1) bytes ++ drop (i + 1) out
-  write-turn {i = i} {x} t m l le b be r re =
-      let g : getD bytes i 0 ≡ byteBy (bestOf (winner k es)) i (sight k (t .entry) (x .end))
-      = byte-for k es i (t .entry) (nth-there i es (t .entry) _ (t .is)) (winner k es) refl (x .end) in
-      let v : b ≡ getD bytes i 0 = be ∙ ap (λ (y : Best). byteBy y i x) le ∙ ap (byteBy (bestOf (winner k es)) i) (t .saw) ∙ sym g in
-      rw (re, v) (copy-step bytes out i (omega (arith, t .more)) (omega (arith, t .more, length-reasons k es (winner k es))))
+  write-turn {s} {i = i} {x} t m l q b be r re =
+      let g = byte-for k es i (t .entry) (nth-there i es (t .entry) _ (t .is)) s (winner k es) refl l q x (t .saw) in
+      rw (re, be ∙ sym g) (copy-step bytes out i (omega (arith, t .more)) (omega (arith, t .more, length-reasons k es (winner k es))))
 
   pub write-done : (i : ℕ) → i ≡ length es → take i bytes ++ drop i out ≡ reported k es out
   unfolding reported

@@ -6,33 +6,28 @@ use mathlib.Core.Option.{Option, none, some}
 use lib.ListN.{length, drop}
 use lib.Dec.{ltb}
 use Rattle.entry.specs.Refusal.{number}
-use Rattle.entry.specs.declared.Refusal.the-variants.{Conflict as ConflictRefusal}
 use Rattle.entry.specs.Key.{badKey}
 use Rattle.entry.specs.Entry.{Entry}
 use Rattle.deliveries.specs.List.{deliveriesOf}
 use Rattle.explain.specs.declared.Explained.{Explained}
-use Rattle.explain.specs.declared.Explained.the-variants.{Winner, NoDelivery, Conflict, Refused}
+use Rattle.explain.specs.declared.Explained.the-variants.{Winner, NoDelivery, Refused}
 use Rattle.explain.specs.Winner.{Placed, winner}
 use Rattle.explain.specs.Reason.{reasonsFor}
-use Rattle.explain.specs.Conflict.{Pair, firstConflict}
 
--- the place of the winner, NONE, a refusal with two places, or a refusal
+-- the place of the winner, NONE, or a refusal
 pub data Answer : Type 0 where
   won : ℕ → Answer
   noDelivery : Answer
-  refusedFor : ℕ → (earlier later : ℕ) → Answer
   refused : ℕ → Answer
 
 abbrev pub answerOf : Explained → Answer  -- (R199)
 answerOf (Winner i) = won i
 answerOf NoDelivery = noDelivery
-answerOf (Conflict e l) = refusedFor (number ConflictRefusal) e l
 answerOf (Refused r) = refused (number r)
 
 unfoldable pub isRefused : Answer → Bool
 isRefused (won i) = false
 isRefused noDelivery = false
-isRefused (refusedFor n e l) = true
 isRefused (refused n) = true
 
 -- the winner's place, or NONE (R248)
@@ -40,20 +35,13 @@ abbrev pub named : Option Placed → Answer
 named none = noDelivery
 named (some w) = won (w .place)
 
--- 30 with the first pair that conflicts, or what comes after that check (R251)
-abbrev pub conflictOr : Option Pair → Answer → Answer
-conflictOr none further = further
-conflictOr (some p) further = refusedFor 30 (p .earlier) (p .later)
-
--- 17 for the list, then 1 for the key, then 30, then 4 for an output of fewer bytes than deliveries
--- (R252)
+-- 17 for the list, then 1 for the key, then 4 for an output of fewer bytes than deliveries (R252)
 abbrev pub explainFor : Option (List Entry) → List ℕ → ℕ → Answer
 explainFor none k room = refused 17
 explainFor (some es) k room =
     cond (badKey k) (refused 1)
-    (conflictOr (firstConflict k es)
     (cond (ltb room (length es)) (refused 4)
-    (named (winner k es))))
+    (named (winner k es)))
 
 unfoldable pub explainAnswer : List ℕ → List ℕ → List ℕ → Answer
 explainAnswer list k out = explainFor (deliveriesOf list) k (length out)

@@ -8,26 +8,24 @@ use mathlib.Core.Option.{none, some}
 use lib.ListN.{length, drop, getD}
 use Rattle.wire.specs.Number.{Bytes}
 use Rattle.entry.specs.Key.{badKey}
-use Rattle.entry.specs.Entry.{Entry}
+use Rattle.entry.specs.Entry.{Entry, beats}
 use Rattle.image.specs.Layout.{mostSlots}
 use Rattle.image.specs.Image.{image}
 use Rattle.store.specs.Create.{freshStore}
 use Rattle.store.specs.Offer.{afterOffer}
 use Rattle.store.specs.Listing.{nth}
 use Rattle.deliveries.specs.List.{deliveriesOf}
-use Rattle.explain.specs.Winner.{isOf, Placed}
+use Rattle.explain.specs.Winner.{isOf}
 use Rattle.explain.specs.Reason as byte
-use Rattle.explain.specs.Conflict.{firstConflict}
 use Rattle.explain.specs.Explain.{won, noDelivery, refused, isRefused, explainAnswer, afterExplain}
 
 -- ---- the refusals
--- each is given exactly where its check is the first that fails (R252); 30 has statements of its
--- own: by them `firstConflict k es ≡ none` says that no two deliveries of the key conflict
+-- each is given exactly where its check is the first that fails (R252)
 pub record RefusedExactly (list k out : List ℕ) : Type 0 where
   pub unreadable : explainAnswer list k out ≡ refused 17 ↔ (deliveriesOf list ≡ none)
   pub bad-key : explainAnswer list k out ≡ refused 1 ↔ ((es : List Entry) × (deliveriesOf list ≡ some es) × (badKey k ≡ true))
   pub no-room : explainAnswer list k out ≡ refused 4
-      ↔ ((es : List Entry) × (deliveriesOf list ≡ some es) × (badKey k ≡ false) × (firstConflict k es ≡ none) × (length out < length es))
+      ↔ ((es : List Entry) × (deliveriesOf list ≡ some es) × (badKey k ≡ false) × (length out < length es))
   pub numbers : (n : ℕ) → explainAnswer list k out ≡ refused n → (n ≡ 17) ⊎ (n ≡ 1) ⊎ (n ≡ 4)
 
 abbrev pub ReportRefused : Type 0
@@ -68,14 +66,16 @@ WinnerIsHeld = (list k out : List ℕ) (es : List Entry) → Bytes list → deli
     → (C : ℕ) → 1 ≤ C → C ≤ mostSlots → WinnerHeld list k out es C
 
 -- ---- each reason means what it says
--- the delivery d of the key lost to the winner w, with the byte b (R249)
+-- the delivery d of the key lost to the winner w, with the byte b (R249, R256)
 pub record LostBy (w d : Entry) (b : ℕ) : Type 0 where
-  pub reason : (1 ≤ b) × (b ≤ 4)
+  pub reason : (b ≡ byte.earlierTime) ⊎ (b ≡ byte.lowerCount) ⊎ (b ≡ byte.lowerNode) ⊎ (b ≡ byte.sameEntry) ⊎ (b ≡ byte.lowerContent)
   pub time : b ≡ byte.earlierTime ↔ (d .stamp .phys < w .stamp .phys)
   pub count : b ≡ byte.lowerCount ↔ (d .stamp .phys ≡ w .stamp .phys) × (d .stamp .logical < w .stamp .logical)
   pub node : b ≡ byte.lowerNode
       ↔ (d .stamp .phys ≡ w .stamp .phys) × (d .stamp .logical ≡ w .stamp .logical) × (d .stamp .node < w .stamp .node)
   pub same : b ≡ byte.sameEntry ↔ (d ≡ w)
+  -- the winner has the same stamp, and so is above by its contents
+  pub content : b ≡ byte.lowerContent ↔ (d .stamp ≡ w .stamp) × (beats w d ≡ true)
 
 -- what the byte b says of the delivery d at place i, where the delivery w at place p won (R250)
 pub record Means (k : List ℕ) (p : ℕ) (w : Entry) (i : ℕ) (d : Entry) (b : ℕ) : Type 0 where

@@ -5,8 +5,7 @@ use mathlib.Core.List.{List, [], _∷_}
 use mathlib.Core.Option.{Option, none, some}
 use lib.ListN.{length, replicate}
 use lib.Dec.{eqb}
-use Rattle.entry.specs.declared.Stamp.{Stamp}
-use Rattle.entry.specs.Entry.{Entry}
+use Rattle.entry.specs.Entry.{Entry, contentBelow}
 use Rattle.explain.specs.Winner.{isOf, Placed}
 
 -- the bytes (R250)
@@ -28,21 +27,25 @@ sameEntry = 4
 abbrev pub otherKey : ℕ
 otherKey = 5
 
--- why a delivery with the stamp s lost to the winner with the stamp w: the first field in which
--- they differ (R249)
-unfoldable pub reason : Stamp → Stamp → ℕ
-reason w s =
-    cond (not (eqb (s .phys) (w .phys))) earlierTime
-    (cond (not (eqb (s .logical) (w .logical))) lowerCount
-    (cond (not (eqb (s .node) (w .node))) lowerNode
-    sameEntry))
+abbrev pub lowerContent : ℕ
+lowerContent = 6
+
+-- why the delivery d lost to the winner w: the first field of the stamp in which they differ, or,
+-- at equal stamps, lower contents; or it is the winner's entry again (R249, R256)
+unfoldable pub reason : Entry → Entry → ℕ
+reason w d =
+    cond (not (eqb (d .stamp .phys) (w .stamp .phys))) earlierTime
+    (cond (not (eqb (d .stamp .logical) (w .stamp .logical))) lowerCount
+    (cond (not (eqb (d .stamp .node) (w .stamp .node))) lowerNode
+    (cond (contentBelow d w) lowerContent
+    sameEntry)))
 
 -- the byte of the delivery d at place i, where w won (R250)
 unfoldable pub byteOf : List ℕ → Placed → ℕ → Entry → ℕ
 byteOf k w i d =
     cond (not (isOf k d)) otherKey
     (cond (eqb i (w .place)) won
-    (reason (w .entry .stamp) (d .stamp)))
+    (reason (w .entry) d))
 
 -- of each of some deliveries, from place i on
 unfoldable pub bytesFrom : List ℕ → Placed → ℕ → List Entry → List ℕ

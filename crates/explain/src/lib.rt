@@ -1,9 +1,6 @@
 // The auditor's report: which of a key's deliveries is in force, and why each other one is not.
-mod conflict;
 mod walk;
 
-use conflict::Found;
-use conflict::find_conflict;
 use deliveries::Counted;
 use deliveries::count;
 use entry::Refusal;
@@ -19,8 +16,6 @@ pub enum Explained {
     Winner(usize),
     // The key never came.
     NoDelivery,
-    // Two deliveries of the key have one stamp and differ: refusal 30.
-    Conflict { earlier: usize, later: usize },
     Refused(Refusal),
 }
 
@@ -36,10 +31,6 @@ pub fn explain(deliveries: &[u8], key: &[u8], reasons: &mut [u8]) -> Explained
     };
     if !is_acceptable_key(key) {
         return Explained::Refused(Refusal::BadKey);
-    }
-    let found = find_conflict(deliveries, key, n);
-    if let Found::TwoPlaces(earlier, later) = found {
-        return Explained::Conflict { earlier, later };
     }
     if reasons.len() < n {
         return Explained::Refused(Refusal::NoRoom);

@@ -10,12 +10,12 @@ use lib.ListN.{length}
 use Rattle.wire.specs.Order.{sameBytes}
 use Rattle.wire.proofs.Tests.{test, clash}
 use Rattle.wire.proofs.Order.{sameBytes-eq, sameBytes-refl}
-use Rattle.entry.specs.Entry.{Entry, Consistent, beats}
-use Rattle.entry.proofs.Order.{beats-asym, beats-weak, beats-tied}
+use Rattle.entry.specs.Entry.{Entry, beats}
+use Rattle.entry.proofs.EntryOrder.{beats-asym, beats-weak, beats-irrefl, beats-trans, beats-tied}
 use Rattle.store.specs.Held.{_∈_, put, putAll, find}
 use Rattle.store.specs.Unchecked.{isHeld}
 use Rattle.history.specs.Book.{hasKey, keyCount, beatsAll, Greatest}
-use Rattle.store.proofs.HeldLaws.{Ascending, beats-irrefl, beats-trans, put-ascending, putAll-ascending, better, join, find-put, find-putAll, find-mem}
+use Rattle.store.proofs.HeldLaws.{Ascending, put-ascending, putAll-ascending, better, join, find-put, find-putAll, find-mem}
 use Rattle.store.proofs.HeldLaws.{find-some, same-find, length-put, length-mono, some-of}
 
 -- the entries held after those of a list were offered, the last first
@@ -170,26 +170,22 @@ best-unbeaten k (d ∷ ds) {e} {c} p m t = elim (test (sameBytes k (d .key))) [
   ]
 ]
 
--- any two of some entries are consistent
-abbrev pub AllConsistent : List Entry → Type 0
-AllConsistent ds = (c d : Entry) → c ∈ ds → d ∈ ds → Consistent c d
-
 pub best-greatest : (k : List ℕ) (ds : List Entry) {e : Entry} → best k ds ≡ some e → Greatest ds e
 best-greatest k ds p =
     let m = best-mem k ds p in
     (m .0, λ d n t. best-unbeaten k ds p n (t ∙ m .1))
 
-pub greatest-best : (ds : List Entry) (e : Entry) → AllConsistent ds → Greatest ds e → best (e .key) ds ≡ some e
-greatest-best ds e con g =
+pub greatest-best : (ds : List Entry) (e : Entry) → Greatest ds e → best (e .key) ds ≡ some e
+greatest-best ds e g =
     let (h, p) = some-of (best (e .key) ds) (best-present (e .key) ds (g .0) refl) in
     let m = best-mem (e .key) ds p in
-    p ∙ ap {B = Option Entry} some (sym (beats-tied e h (con e h (g .0) (m .0)) (sym (m .1)) (best-unbeaten (e .key) ds p (g .0) refl) (g .1 h (m .0) (m .1))))
+    p ∙ ap {B = Option Entry} some (sym (beats-tied e h (sym (m .1)) (best-unbeaten (e .key) ds p (g .0) refl) (g .1 h (m .0) (m .1))))
 
 -- what is held is the greatest of each key
-pub held-greatest : (ds : List Entry) → AllConsistent ds → (e : Entry) → e ∈ held ds ↔ Greatest ds e
-held-greatest ds con e = (
+pub held-greatest : (ds : List Entry) (e : Entry) → e ∈ held ds ↔ Greatest ds e
+held-greatest ds e = (
   λ m. best-greatest (e .key) ds (sym (find-held (e .key) ds) ∙ find-mem (held ds) (held-ascending ds) m),
-  λ g. (find-some (e .key) (held ds) (find-held (e .key) ds ∙ greatest-best ds e con g)) .0,
+  λ g. (find-some (e .key) (held ds) (find-held (e .key) ds ∙ greatest-best ds e g)) .0,
 )
 
 pub held-mem : (ds : List Entry) {e : Entry} → e ∈ held ds → e ∈ ds
@@ -202,19 +198,19 @@ Within ds gs = (e : Entry) → e ∈ ds → e ∈ gs
 greatest-same : (ds gs : List Entry) → Within ds gs → Within gs ds → (e : Entry) → Greatest ds e → Greatest gs e
 greatest-same ds gs f b e g = (f e (g .0), λ d m t. g .1 d (b d m) t)
 
-best-same : (ds gs : List Entry) → AllConsistent gs → Within ds gs → Within gs ds → (k : List ℕ) {e : Entry} → best k ds ≡ some e → best k gs ≡ some e
-best-same ds gs cg f b k {e} p =
-    ap (λ j. best j gs) (sym ((best-mem k ds p) .1)) ∙ greatest-best gs e cg (greatest-same ds gs f b e (best-greatest k ds p))
+best-same : (ds gs : List Entry) → Within ds gs → Within gs ds → (k : List ℕ) {e : Entry} → best k ds ≡ some e → best k gs ≡ some e
+best-same ds gs f b k {e} p =
+    ap (λ j. best j gs) (sym ((best-mem k ds p) .1)) ∙ greatest-best gs e (greatest-same ds gs f b e (best-greatest k ds p))
 
 -- equal sets are held alike
-pub held-same : (ds gs : List Entry) → AllConsistent ds → AllConsistent gs → Within ds gs → Within gs ds → held ds ≡ held gs
-held-same ds gs cd cg f b = same-find (held ds) (held gs) (held-ascending ds) (held-ascending gs)
+pub held-same : (ds gs : List Entry) → Within ds gs → Within gs ds → held ds ≡ held gs
+held-same ds gs f b = same-find (held ds) (held gs) (held-ascending ds) (held-ascending gs)
     (λ k. find-held k ds ∙ go k (best k ds) (best k gs) refl refl ∙ sym (find-held k gs))
   where
     go : (k : List ℕ) (o p : Option Entry) → best k ds ≡ o → best k gs ≡ p → o ≡ p
     go k none none q r = refl
-    go k (some e) p q r = sym (best-same ds gs cg f b k q) ∙ r
-    go k none (some e) q r = sym q ∙ best-same gs ds cd b f k r
+    go k (some e) p q r = sym (best-same ds gs f b k q) ∙ r
+    go k none (some e) q r = sym q ∙ best-same gs ds b f k r
 
 -- a larger set has as many keys or more
 pub keyCount-mono : (ds gs : List Entry) → Within ds gs → keyCount ds ≤ keyCount gs

@@ -14,8 +14,9 @@ use lib.Dec.{eqb}
 use borrow.Author.Tests.{eqb-true, eqb-false}
 use Rattle.wire.proofs.Tests.{test}
 use Rattle.entry.specs.Key.{badKey}
-use Rattle.entry.specs.Entry.{Entry, Acceptable, Consistent}
+use Rattle.entry.specs.Entry.{Entry, Acceptable}
 use Rattle.entry.proofs.Accept.{accepted}
+use Rattle.entry.proofs.EntryOrder.{beats-stamp}
 use Rattle.image.specs.Layout.{mostSlots}
 use Rattle.image.specs.Image.{image, slotsOf, entriesOf, sound}
 use Rattle.image.specs.Meaning.{Fit}
@@ -32,9 +33,9 @@ use Rattle.store.specs.Meaning.{Representable, Finds}
 use Rattle.history.specs.Book.{Call, offer, merge, hasKey, keyCount, beatsAll, Greatest, bookOffer, bookOffered, bookMerge, bookMerged, Book, delivered}
 use Rattle.history.specs.Book.{bookAnswer, bookAfter, runBook, bookAnswers, offers, InRange}
 use Rattle.history.specs.History.{Stores, store, answer, after, run, answers, fresh, noneDelivered, setAfter, DeliveryHistory, EveryDeliveryHistory}
-use Rattle.store.proofs.HeldLaws.{beats-stamp, none-of}
+use Rattle.store.proofs.HeldLaws.{none-of}
 use Rattle.store.proofs.Members.{accept-all, fit-all, ascend}
-use Rattle.history.proofs.Best.{held, best, beatsBest, AllConsistent, Within, held-ascending, find-held, held-append, hasKey-best, keyCount-held}
+use Rattle.history.proofs.Best.{held, best, beatsBest, Within, held-ascending, find-held, held-append, hasKey-best, keyCount-held}
 use Rattle.history.proofs.Best.{beatsAll-best, greatest-best, held-greatest, held-mem, held-same, held-key, held-grows}
 use Rattle.history.proofs.BookLaws.{offer-accepted, merge-accepted, range-tail, offers-tail, range-append, offers-append, within-cons, within-append}
 use Rattle.history.proofs.BookLaws.{none-within, book-grows, book-accepts}
@@ -51,8 +52,7 @@ told-book e ds = rw (find-held (e .key) ds, hasKey-best (e .key) ds, beatsAll-be
 
 -- over some entries that hold all those offered
 module _ (C n : ℕ) (lo : 1 ≤ C) (hi : C ≤ mostSlots) (all : List Entry)
-    (rep : (e : Entry) → e ∈ all → Representable e)
-    (con : (d e : Entry) → d ∈ all → e ∈ all → Acceptable d → Acceptable e → Consistent d e) where
+    (rep : (e : Entry) → e ∈ all → Representable e) where
   -- a store is the image of what is held of its set
   pub record StoreAgrees (ds : List Entry) (bytes : List ℕ) : Type 0 where
     pub is-image : bytes ≡ image C (held ds)
@@ -80,9 +80,6 @@ module _ (C n : ℕ) (lo : 1 ≤ C) (hi : C ≤ mostSlots) (all : List Entry)
 
     slots-are : slotsOf bytes ≡ C
     slots-are = rw (a .is-image) (slots-of-image C (held ds) (omega arith))
-
-    consistent : AllConsistent ds
-    consistent d e m k = con d e (a .known d m) (a .known e k) (a .acceptable d m) (a .acceptable e k)
 
     offer-answer : (e : Entry) → offerAnswer bytes e ≡ bookOffer C ds e
     unfolding offerAnswer bookOffer held
@@ -115,7 +112,7 @@ module _ (C n : ℕ) (lo : 1 ≤ C) (hi : C ≤ mostSlots) (all : List Entry)
     look-greatest e g =
         let ok = accepted e (a .acceptable e (g .0)) in
         let l = look-is (e .key) (ok .good-key) in
-        let b = greatest-best ds e consistent g in
+        let b = greatest-best ds e g in
         record {
           told = l .0 ∙ rw b;
           part = l .1 ∙ rw b (elim (test (eqb (e .flag) 1)) [ inl p ↦ rw p (sym (ok .tombstone (eqb-true _ _ p))) | inr p ↦ rw p ]);
@@ -211,13 +208,13 @@ module _ (C n : ℕ) (lo : 1 ≤ C) (hi : C ≤ mostSlots) (all : List Entry)
       answered = same-answers;
       accepted =
           λ ok few a m. book-accepts C (offers calls) ok few (noneDelivered n) calls (λ i. none-within n i (offers calls)) (λ e j. j) a (rw same-answers at m);
-      holds = λ i h e. let a = end .each i h in rw (entries-are a) (held-greatest (setAfter C n calls i) (consistent a) e);
+      holds = λ i h e. let a = end .each i h in rw (entries-are a) (held-greatest (setAfter C n calls i) e);
       keys = λ i h d m. let a = end .each i h in rw (entries-are a) (held-key (setAfter C n calls i) m);
       bytes = λ i h. let a = end .each i h in rw (entries-are a) (ascend _ (held-ascending (setAfter C n calls i)), a .is-image);
       converge = λ i j h l f.
           let a = end .each i h in
           let b = end .each j l in
-          a .is-image ∙ ap (image C) (held-same (setAfter C n calls i) (setAfter C n calls j) (consistent a) (consistent b) (λ e. f e .0) (λ e. f e .1))
+          a .is-image ∙ ap (image C) (held-same (setAfter C n calls i) (setAfter C n calls j) (λ e. f e .0) (λ e. f e .1))
           ∙ sym (b .is-image);
       monotone = λ before c later split i l h.
           let r = range-append n before (c ∷ later) (rw split at range) in
@@ -225,10 +222,10 @@ module _ (C n : ℕ) (lo : 1 ≤ C) (hi : C ≤ mostSlots) (all : List Entry)
           let a = run-agrees before (r .0) (o .0) fresh-agrees in
           let b = call-after c later (r .1) (o .1) a in
           rw (entries-are (a .each i l), entries-are (b .each i l))
-          (λ m. let (g, k, e, u) = held-grows _ _ (book-grows C (runBook C (noneDelivered n) before) c i) h m in (g, k, e, beats-stamp h g u));
+          (λ m. let (g, k, e, u) = held-grows _ _ (book-grows C (runBook C (noneDelivered n) before) c i) h m in (g, k, e, beats-stamp h g u, u));
       looked = λ i h e g. look-greatest (end .each i h) e g;
       unseen = λ i h k b u. look-unseen (end .each i h) k b u;
     }
 
 pub delivery-history : EveryDeliveryHistory
-delivery-history C n calls lo hi range rep con = history C n lo hi (offers calls) rep con calls range (λ e m. m)
+delivery-history C n calls lo hi range rep = history C n lo hi (offers calls) rep calls range (λ e m. m)

@@ -27,7 +27,7 @@ unfoldable pub keyCount : List Entry → ℕ
 keyCount [] = 0
 keyCount (d ∷ ds) = cond (hasKey (d .key) ds) (keyCount ds) (suc (keyCount ds))
 
--- e beats each entry of its key (R130)
+-- e beats each entry of its key, and so becomes the greatest of it (R130)
 unfoldable pub beatsAll : Entry → List Entry → Bool
 beatsAll e [] = true
 beatsAll e (d ∷ ds) = cond (sameBytes (e .key) (d .key)) (beats e d && beatsAll e ds) (beatsAll e ds)

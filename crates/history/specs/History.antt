@@ -11,7 +11,7 @@ use mathlib.Core.List.{List, [], _∷_, _++_}
 use lib.ListN.{getD, set, replicate}
 use Rattle.entry.specs.Key.{badKey}
 use Rattle.entry.specs.Order.{stampBelow}
-use Rattle.entry.specs.Entry.{Entry, Acceptable, Consistent}
+use Rattle.entry.specs.Entry.{Entry, Acceptable, beats}
 use Rattle.image.specs.Layout.{mostSlots}
 use Rattle.image.specs.Image.{image, entriesOf, ascending}
 use Rattle.store.specs.Held.{_∈_}
@@ -78,10 +78,12 @@ pub record DeliveryHistory (C n : ℕ) (calls : List Call) : Type 0 where
   -- stores to which the same set was delivered are equal, byte for byte (R189)
   pub converge : (i j : ℕ) → i < n → j < n → ((e : Entry) → e ∈ setAfter C n calls i ↔ e ∈ setAfter C n calls j)
       → storeAfter C n calls i ≡ storeAfter C n calls j
-  -- no call lost a held key or lowered a held stamp (R190)
+  -- no call lost a held key, lowered a held stamp, or put an entry in the place of one that beats it
+  -- (R190, R256)
   pub monotone : (before : List Call) (c : Call) (later : List Call) → calls ≡ before ++ c ∷ later
       → (i : ℕ) → i < n → (h : Entry) → h ∈ entriesOf (storeAfter C n before i)
-      → (g : Entry) × g ∈ entriesOf (store (after (run (fresh C n) before) c) i) × (g .key ≡ h .key) × (stampBelow (g .stamp) (h .stamp) ≡ false)
+      → (g : Entry) × g ∈ entriesOf (store (after (run (fresh C n) before) c) i) × (g .key ≡ h .key)
+      × (stampBelow (g .stamp) (h .stamp) ≡ false) × (beats h g ≡ false)
   -- a lookup then gives the value of the greatest entry of a key, or says that it is deleted (R191)
   pub looked : (i : ℕ) → i < n → (e : Entry) → Greatest (setAfter C n calls i) e → Finds (storeAfter C n calls i) e
   -- and says of a key that was never delivered that it was never seen (R192)
@@ -92,12 +94,8 @@ pub record DeliveryHistory (C n : ℕ) (calls : List Call) : Type 0 where
 abbrev pub RepresentableOffers : List Call → Type 0
 RepresentableOffers calls = (e : Entry) → e ∈ offers calls → Representable e
 
--- equal key and stamp mean equal entry, among the acceptable entries that are offered (R184)
-abbrev pub ConsistentOffers : List Call → Type 0
-ConsistentOffers calls = (d e : Entry) → d ∈ offers calls → e ∈ offers calls → Acceptable d → Acceptable e → Consistent d e
-
 -- demand 3, the delivery history: for every slot count, every number of stores and every list of
 -- calls (R182, R183, R194)
 abbrev pub EveryDeliveryHistory : Type 0
 EveryDeliveryHistory = (C n : ℕ) (calls : List Call) → 1 ≤ C → C ≤ mostSlots → InRange n calls
-    → RepresentableOffers calls → ConsistentOffers calls → DeliveryHistory C n calls
+    → RepresentableOffers calls → DeliveryHistory C n calls

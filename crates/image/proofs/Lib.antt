@@ -1,4 +1,3 @@
-pub mod Compared
 pub mod Fields
 pub mod SlotLaws
 pub mod ImageLaws

@@ -33,7 +33,7 @@ use Rattle.image.specs.Image.{allAcceptable, belowFirst, ascending, soun
 use Rattle.image.specs.Slot.{slotAt}
 use Rattle.image.specs.Check.{sealed, slotSound, slotsSound, shaped}
 use Rattle.image.specs.Meaning.{Fit, AllFit, Sound}
-use Rattle.image.proofs.Compared.{came-below, came-not-below}
+use Rattle.wire.proofs.Compared.{came-below, came-not-below}
 use Rattle.wire.proofs.Fields.{be-field, field-split}
 use Rattle.image.proofs.Fields.{field-past-all}
 use Rattle.image.proofs.SlotLaws.{length-slot, fit-of, slot-entry, in-klen, in-vlen}

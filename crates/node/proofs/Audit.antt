@@ -15,7 +15,7 @@ use Rattle.entry.specs.declared.Stamp.{Stamp}
 use Rattle.entry.specs.Key.{badKey}
 use Rattle.entry.specs.Order.{stampBelow}
 use Rattle.entry.specs.Entry.{Entry, entryOf, beats}
-use Rattle.entry.proofs.Order.{beats-asym}
+use Rattle.entry.proofs.EntryOrder.{above-beats, beats-stamp, beats-asym, beats-irrefl}
 use Rattle.entry.proofs.Accept.{accepted}
 use Rattle.clock.specs.declared.Clock.{Clock}
 use Rattle.clock.specs.Clock.{stampOf}
@@ -28,7 +28,7 @@ use Rattle.store.specs.Offer.{told}
 use Rattle.store.specs.Overtaken.{overtakenBy, overtaken}
 use Rattle.store.specs.Lookup.{findingFor, valueFor, lookupAnswer, valuePart}
 use Rattle.store.specs.Meaning.{Representable, Keeps}
-use Rattle.store.proofs.HeldLaws.{Ascending, beats-irrefl, beats-stamp, better, find-put, find-mem, find-some}
+use Rattle.store.proofs.HeldLaws.{Ascending, better, find-put, find-mem, find-some}
 use Rattle.store.proofs.OnSound.{ordered}
 use Rattle.store.proofs.Keeping.{offer-taken, offer-keeps, kept-unchanged}
 use Rattle.node.specs.Handler.{Served, done, refused, gets, serve, serveFrame, settle, handled}
@@ -61,18 +61,19 @@ unfolding told
 told-kept e h b = rw b
 
 pub stale-replica-changes-nothing : StaleReplicaChangesNothing
-unfolding serve beats
+unfolding serve
 stale-replica-changes-nothing s s′ c d now e h m k f b r =
     let t = replica-done s c now e s′ d m r .took in
     t .left ∙ kept-unchanged s e (offer-taken s e (t .taken) .told ∙ ap (told e) f ∙ told-kept e h b)
 
 -- ---- what a served request keeps
--- a store after a served write: it is sound, every held key is held on, and no held stamp is lowered
+-- a store after a served write: it is sound, every held key is held on, no held stamp is lowered,
+-- and no entry is in the place of one that beats it
 abbrev pub Safe : List ℕ → List ℕ → Type 0
 Safe s s′ = (sound s′ ≡ true) × ((h : Entry) → h ∈ entriesOf s → StillHeld h (entriesOf s′))
 
 still : (h : Entry) (es : List Entry) (g : Entry) → find (h .key) es ≡ some g → beats h g ≡ false → StillHeld h es
-still h es g f b = let r = find-some (h .key) es f in record { entry = g; held = r .0; same-key = r .1; not-lower = beats-stamp h g b }
+still h es g f b = let r = find-some (h .key) es f in record { entry = g; held = r .0; same-key = r .1; not-lower = beats-stamp h g b; not-beaten = b }
 
 put-still : (e : Entry) (es : List Entry) → Ascending es → (h : Entry) → h ∈ es → StillHeld h (put e es)
 unfolding better
@@ -110,9 +111,9 @@ pub record Holds (s : List ℕ) (k v : List ℕ) (f : ℕ) : Type 0 where
 
 -- a write that is not overtaken is the better entry
 local-better : (k v : List ℕ) (f : ℕ) (t : Stamp) (o : Option Entry) → overtakenBy o t ≡ false → better (entryOf k v f t) o ≡ some (entryOf k v f t)
-unfolding overtakenBy better beats
+unfolding overtakenBy better
 local-better k v f t none z = refl
-local-better k v f t (some g) z = rw (not-false (stampBelow (g .stamp) t) z)
+local-better k v f t (some g) z = rw (above-beats (entryOf k v f t) g (not-false (stampBelow (g .stamp) t) z))
 
 written : (s : List ℕ) → sound s ≡ true → (c : Clock) → c .node < 2 ^ 8 → (now : ℕ) (k v : List ℕ) (f : ℕ) (s′ : List ℕ) (d : Clock)
     → LocallyWrote s c now k v f s′ d → Holds s′ k v f

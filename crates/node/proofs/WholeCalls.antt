@@ -13,7 +13,6 @@ use Rattle.wire.specs.Number.{Bytes}
 use Rattle.wire.specs.Order.{sameBytes}
 use Rattle.wire.proofs.Tests.{test, false-of}
 use Rattle.wire.proofs.Order.{sameBytes-eq, sameBytes-refl}
-use Rattle.entry.specs.Order.{stampBelow}
 use Rattle.entry.specs.Entry.{Entry, beats, badTime}
 use Rattle.entry.proofs.Order.{stampBelow-asym, stampBelow-irrefl}
 use Rattle.clock.specs.declared.Clock.{Clock}
@@ -99,9 +98,9 @@ found-or-offered s c now frame reply bytes n = elim (call-deed s c now frame rep
 
 -- ---- a REPL frame
 better-is : (e : Entry) (x : Option Entry) → better e x ≡ some (heldAfter e x)
-unfolding better beats
+unfolding better
 better-is e none = refl
-better-is e (some h) = elim (test (stampBelow (h .stamp) (e .stamp))) [ inl p ↦ rw p | inr p ↦ rw p ]
+better-is e (some h) = elim (test (beats e h)) [ inl p ↦ rw p | inr p ↦ rw p ]
 
 pub accepted-replica-is-held : AcceptedReplicaIsHeld
 unfolding serve

@@ -9,7 +9,7 @@ use lib.ListN.{length, take}
 use Rattle.wire.specs.Number.{Bytes}
 use Rattle.entry.specs.Refusal.{lastNumber}
 use Rattle.entry.specs.Order.{stampBelow}
-use Rattle.entry.specs.Entry.{Entry, entryOf}
+use Rattle.entry.specs.Entry.{Entry, entryOf, beats}
 use Rattle.clock.specs.declared.Clock.{Clock}
 use Rattle.clock.specs.Clock.{next, stampOf, sendStep, receiveStep}
 use Rattle.frame.specs.Message.{Message, put, get, del, repl, value, notFound, err, keyOf, InRange}
@@ -32,10 +32,10 @@ abbrev pub RefusalChangesNothing : Type 0
 RefusalChangesNothing = (store : List ℕ) (c : Clock) (now : ℕ) (frame reply : List ℕ) → (handled store c now frame reply .refusal ≡ 0 → ⊥)
     → (handled store c now frame reply .store ≡ store) × (handled store c now frame reply .clock ≡ c)
 
--- a replicated entry whose stamp is not above that of the held entry of its key leaves the store as it came (R140)
+-- a replicated entry that does not beat the held one of its key leaves the store as it came (R140)
 abbrev pub StaleReplicaChangesNothing : Type 0
 StaleReplicaChangesNothing = (s s′ : List ℕ) (c d : Clock) (now : ℕ) (e h : Entry) (m : Message) → sound s ≡ true
-    → find (e .key) (entriesOf s) ≡ some h → stampBelow (h .stamp) (e .stamp) ≡ false → serve s c now (repl e) ≡ done s′ d m → s′ ≡ s
+    → find (e .key) (entriesOf s) ≡ some h → beats e h ≡ false → serve s c now (repl e) ≡ done s′ d m → s′ ≡ s
 
 -- a GET after an accepted PUT of its key gives that value, at any clock and any time (R134, R136)
 abbrev pub GetAfterPut : Type 0
@@ -47,14 +47,17 @@ abbrev pub GetAfterDel : Type 0
 GetAfterDel = (s s′ : List ℕ) (c d c′ : Clock) (now now′ : ℕ) (k : List ℕ) (m : Message) → sound s ≡ true → c .node < 2 ^ 8
     → serve s c now (del k) ≡ done s′ d m → serve s′ c′ now′ (get k) ≡ done s′ c′ notFound
 
--- some entries hold one with the key of h, and a stamp that is not below
+-- some entries hold one with the key of h, whose stamp is not below that of h, and that h does not
+-- beat (R256)
 pub record StillHeld (h : Entry) (es : List Entry) : Type 0 where
   pub entry : Entry
   pub held : entry ∈ es
   pub same-key : h .key ≡ entry .key
   pub not-lower : stampBelow (entry .stamp) (h .stamp) ≡ false
+  pub not-beaten : beats h entry ≡ false
 
--- a served request leaves a sound store, loses no held key and lowers no held stamp (R139, R190)
+-- a served request leaves a sound store, loses no held key, lowers no held stamp, and puts no entry
+-- in the place of one that beats it (R139, R190, R256)
 abbrev pub NeverLosesOrLowers : Type 0
 NeverLosesOrLowers = (s s′ : List ℕ) (c d : Clock) (now : ℕ) (m m′ : Message) → sound s ≡ true → c .node < 2 ^ 8 → InRange m
     → serve s c now m ≡ done s′ d m′ → (sound s′ ≡ true) × ((h : Entry) → h ∈ entriesOf s → StillHeld h (entriesOf s′))
@@ -82,24 +85,26 @@ abbrev pub AcceptedCallServes : Type 0
 AcceptedCallServes = (s : List ℕ) (c : Clock) (now : ℕ) (frame reply : List ℕ) (m : Message) → handled s c now frame reply .refusal ≡ 0
     → readFrame frame ≡ message m → (sound s ≡ true) × Serves s c now m (handled s c now frame reply .store)
 
--- a stale REPL frame leaves any store as it came, whatever else is given (R140)
+-- a REPL frame whose entry does not beat the held one leaves any store as it came, whatever else is
+-- given (R140)
 abbrev pub StaleFrameChangesNothing : Type 0
 StaleFrameChangesNothing = (s : List ℕ) (c : Clock) (now : ℕ) (frame reply : List ℕ) (e h : Entry) → readFrame frame ≡ message (repl e)
-    → find (e .key) (entriesOf s) ≡ some h → stampBelow (h .stamp) (e .stamp) ≡ false → handled s c now frame reply .store ≡ s
+    → find (e .key) (entriesOf s) ≡ some h → beats e h ≡ false → handled s c now frame reply .store ≡ s
 
--- any call, refused or not, leaves a sound store sound, loses no held key and lowers no held stamp (R139, R190)
+-- any call, refused or not, leaves a sound store sound, loses no held key, lowers no held stamp, and
+-- puts no entry in the place of one that beats it (R139, R190, R256)
 abbrev pub CallNeverLosesOrLowers : Type 0
 CallNeverLosesOrLowers = (s : List ℕ) (c : Clock) (now : ℕ) (frame reply : List ℕ) → Bytes frame → sound s ≡ true → c .node < 2 ^ 8
     → (sound (handled s c now frame reply .store) ≡ true) × ((h : Entry) → h ∈ entriesOf s → StillHeld h (entriesOf (handled s c now frame reply .store)))
 
--- the entry held for a key after a replica of it: the replica as it came, unless the one held
--- before is not lower
+-- the entry held for a key after a replica of it: the replica as it came if none was held before or
+-- it beats that one, else that one
 abbrev pub heldAfter : Entry → Option Entry → Entry
 heldAfter e none = e
-heldAfter e (some h) = cond (stampBelow (h .stamp) (e .stamp)) e h
+heldAfter e (some h) = cond (beats e h) e h
 
--- an accepted REPL leaves its entry held with its stamp unaltered, far ahead or not, unless the
--- held one is not lower (R100, R139)
+-- an accepted REPL leaves its entry held with its stamp unaltered, far ahead or not, if none of its
+-- key was held or it beats that one, else that one (R100, R139)
 abbrev pub AcceptedReplicaIsHeld : Type 0
 AcceptedReplicaIsHeld = (s : List ℕ) (c : Clock) (now : ℕ) (frame reply : List ℕ) (e : Entry) → Bytes frame → readFrame frame ≡ message (repl e)
     → handled s c now frame reply .refusal ≡ 0
@@ -168,7 +173,8 @@ pub data LocalWrite (c : Clock) (now : ℕ) (d : Clock) : Message → Entry → 
 pub data Replica (c : Clock) (now : ℕ) (d : Clock) : Message → Entry → Type 0 where
   a-repl : (e : Entry) → receiveStep c (e .stamp .phys) (e .stamp .logical) now ≡ next d → Replica c now d (repl e) e
 
--- a local write whose stamp is not above that of the held entry of its key (R14)
+-- a local write whose stamp is not above that of the held entry of its key, whatever the contents
+-- (R14)
 pub record OvertakenWrite (s : List ℕ) (c : Clock) (now : ℕ) (frame reply : List ℕ) : Type 0 where
   pub request : Message
   pub asks : Asks s c now frame reply request

@@ -10,9 +10,8 @@ use lib.ListN.{length}
 use Rattle.wire.specs.Order.{sameBytes}
 use Rattle.wire.proofs.Tests.{test, clash, false-of}
 use Rattle.wire.proofs.Order.{sameBytes-eq, sameBytes-refl, bytesBelow-trans, bytesBelow-irrefl, bytesBelow-tied}
-use Rattle.entry.specs.Order.{stampBelow, keyBelow}
+use Rattle.entry.specs.Order.{keyBelow}
 use Rattle.entry.specs.Entry.{Entry, beats}
-use Rattle.entry.proofs.Order.{beats-asym, beats-weak}
 use Rattle.store.specs.Held.{_∈_, put, putAll, find}
 use Rattle.store.specs.Unchecked.{isHeld}
 
@@ -24,21 +23,6 @@ Above k es = (e : Entry) → e ∈ es → keyBelow k (e .key) ≡ true
 abbrev pub Ascending : List Entry → Type 0
 Ascending [] = Unit
 Ascending (e ∷ es) = Above (e .key) es × Ascending es
-
--- which of two entries wins: nothing below this block opens `beats`
-pub beats-irrefl : (e : Entry) → beats e e ≡ false
-beats-irrefl e = elim (test (beats e e)) [ inl p ↦ beats-asym e e p | inr p ↦ p ]
-
-pub beats-trans : (c d e : Entry) → beats c d ≡ true → beats d e ≡ true → beats c e ≡ true
-beats-trans c d e p q = elim (test (beats c e)) [
-  | inl r ↦ r
-  | inr r ↦ clash p (beats-weak c e d r (beats-asym d e q))
-]
-
--- an entry that is not beaten has no stamp below
-pub beats-stamp : (h g : Entry) → beats h g ≡ false → stampBelow (g .stamp) (h .stamp) ≡ false
-unfolding beats
-beats-stamp h g p = p
 
 -- whether there is an entry
 pub none-of : (o : Option Entry) → isHeld o ≡ false → o ≡ none

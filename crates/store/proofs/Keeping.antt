@@ -8,23 +8,24 @@ use mathlib.Core.List.{List, [], _∷_, List·Memᴰ·head as head, List·Memᴰ
 use mathlib.Core.Option.{Option, none, some}
 use lib.ListN.{length}
 use lib.Dec.{ltb, eqb}
-use borrow.Author.Tests.{ltb-false, eqb-true}
+use borrow.Author.Tests.{ltb-false, eqb-true, le-ltb, eq-eqb}
 use Rattle.wire.proofs.Tests.{test, clash}
 use Rattle.wire.proofs.Order.{sameBytes-refl}
 use Rattle.entry.specs.Entry.{Entry, Acceptable, beats, refusalOf}
 use Rattle.entry.proofs.Accept.{accepted}
+use Rattle.entry.proofs.EntryOrder.{beats-irrefl}
 use Rattle.image.specs.Image.{image, slotsOf, entriesOf, allAcceptable, ascending, sound}
-use Rattle.image.proofs.Compared.{distinct}
+use Rattle.wire.proofs.Compared.{distinct}
 use Rattle.image.proofs.SlotLaws.{fits}
-use Rattle.image.proofs.ImageLaws.{sound-is, sound-image, slots-of-image, entries-of-image}
+use Rattle.image.proofs.ImageLaws.{used-is, sound-is, sound-image, slots-of-image, entries-of-image}
 use Rattle.store.specs.Held.{_∈_, put, putAll, find}
 use Rattle.store.specs.Answer.{Answer, stored, replaced, kept, isRefused}
 use Rattle.store.specs.Create.{freshStore}
 use Rattle.store.specs.Lookup.{valueFor, lookupAnswer, valuePart}
 use Rattle.store.specs.Offer.{told, offerAnswer, afterOffer}
 use Rattle.store.specs.Merge.{mergeAnswer, afterMerge}
-use Rattle.store.specs.Meaning.{Representable, Keeps, FreshKeeps, OfferKeeps, MergeKeeps, KeptUnchanged, Finds, FoundAfterOffer}
-use Rattle.store.proofs.HeldLaws.{mem-put, putAll-ascending, better, find-put}
+use Rattle.store.specs.Meaning.{Representable, Keeps, FreshKeeps, OfferKeeps, MergeKeeps, KeptUnchanged, HeldIsKept, Finds, FoundAfterOffer}
+use Rattle.store.proofs.HeldLaws.{mem-put, putAll-ascending, better, find-put, find-mem}
 use Rattle.store.proofs.Seeking.{seen-find, put-seen}
 use Rattle.store.proofs.OnSound.{ordered, image-keeps, fits-held, accepts-held, put-keeps}
 
@@ -114,6 +115,14 @@ kept-unchanged s e p =
     let (h, o, b) = told-kept e (find (e .key) (entriesOf s)) (sym (t .told) ∙ p) in
     let q = put-seen e (entriesOf s) h (seen-find (e .key) (entriesOf s) (ordered s (t .sound)) ∙ o) in
     after-taken s e (ap isRefused p) ∙ ap (image (slotsOf s)) (q ∙ rw b) ∙ sym (sound-is s (t .sound) .bytes)
+
+pub held-is-kept : HeldIsKept
+unfolding offerAnswer told
+held-is-kept s e h m =
+    let es = entriesOf s in
+    let f = find-mem es (ordered s h) m in
+    let p : put e es ≡ es = put-seen e es e (seen-find (e .key) es (ordered s h) ∙ f) ∙ rw (beats-irrefl e) in
+    rw (h, eq-eqb (refusalOf e) 0 (accepts-held s h e m), p, le-ltb (slotsOf s) (length es) (omega (arith, used-is s, sound-is s h .room)), f, beats-irrefl e)
 
 -- ---- found
 told-new : (e : Entry) (o : Option Entry) → (told e o ≡ stored) ⊎ (told e o ≡ replaced) → better e o ≡ some e

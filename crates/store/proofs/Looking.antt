@@ -21,7 +21,7 @@ use Rattle.entry.specs.Entry.{Entry}
 use Rattle.image.specs.Layout.{klenAt, vlenAt, keyAt, keyWidth, valueAt, valueWidth, slotWidth, slotStart, valueStart}
 use Rattle.image.specs.Image.{keyIn, valueIn, slotEntry, entriesOf, sound}
 use Rattle.image.specs.Slot.{slotAt}
-use Rattle.image.proofs.Compared.{distinct}
+use Rattle.wire.proofs.Compared.{distinct}
 use Rattle.image.proofs.ImageLaws.{entry-at, used-is, sound-is, sound-length}
 use Rattle.store.specs.Held.{find, indexOf}
 use Rattle.store.specs.declared.Looked.{Looked}

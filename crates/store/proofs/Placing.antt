@@ -17,7 +17,7 @@ use Rattle.entry.specs.Entry.{Entry, beats, refusalOf}
 use Rattle.image.specs.Layout.{slotStart}
 use Rattle.image.specs.Image.{slotBytes, slotsOf, usedOf, entriesOf}
 use Rattle.image.specs.Slot.{slotAt, hasSlot}
-use Rattle.image.proofs.Compared.{distinct}
+use Rattle.wire.proofs.Compared.{distinct}
 use Rattle.image.proofs.SlotLaws.{length-slot}
 use Rattle.image.proofs.ImageLaws.{used-is}
 use Rattle.store.specs.declared.Placement.{Placement}

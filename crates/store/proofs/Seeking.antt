@@ -14,7 +14,7 @@ use Rattle.wire.specs.declared.Comparison.the-variants as order
 use Rattle.wire.proofs.Tests.{test}
 use Rattle.entry.specs.Order.{keyBelow}
 use Rattle.entry.specs.Entry.{Entry, beats}
-use Rattle.image.proofs.Compared.{came-below, came-same, came-above}
+use Rattle.wire.proofs.Compared.{came-below, came-same, came-above}
 use Rattle.store.specs.Held.{put, putAll, find, indexOf}
 use Rattle.store.specs.Unchecked.{seek, seen, isHeld, Placed, countNew}
 use Rattle.store.proofs.HeldLaws.{Above, Ascending, above-trans, above-cons, above-differ, put-ascending, find-none, find-put, length-put}

@@ -12,7 +12,7 @@ use Rattle.entry.specs.Entry.{Entry, entryOf}
 use Rattle.image.specs.Layout.{mostSlots}
 use Rattle.image.specs.Image.{slotBytes, slotsOf, entriesOf, sound}
 use Rattle.image.specs.Slot.{slotAt}
-use Rattle.store.specs.Held.{put, putAll, indexOf}
+use Rattle.store.specs.Held.{_∈_, put, putAll, indexOf}
 use Rattle.store.specs.Answer.{stored, replaced, kept, isRefused}
 use Rattle.store.specs.Create.{freshStore}
 use Rattle.store.specs.Lookup.{value, findingFor, lookupAnswer, valuePart}
@@ -51,6 +51,10 @@ MergeKeeps = (r g : List ℕ) → sound r ≡ true → sound g ≡ true
 -- an offer that is told as kept changes no byte (R119)
 abbrev pub KeptUnchanged : Type 0
 KeptUnchanged = (s : List ℕ) (e : Entry) → offerAnswer s e ≡ kept → afterOffer s e ≡ s
+
+-- and an entry that is held is told as kept when it is offered again (R119)
+abbrev pub HeldIsKept : Type 0
+HeldIsKept = (s : List ℕ) (e : Entry) → sound s ≡ true → e ∈ entriesOf s → offerAnswer s e ≡ kept
 
 -- ---- a lookup
 -- the place that it gives lies in the store, and the value stands there (R124)

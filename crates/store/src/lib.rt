@@ -6,6 +6,7 @@ use entry::Acceptance;
 use entry::Refusal;
 use entry::Stamp;
 use entry::TOMBSTONE;
+use entry::beats;
 use entry::is_acceptable_key;
 use entry::judge;
 use image::has_slot;
@@ -31,6 +32,8 @@ use write::write_entry;
 use write::write_slot;
 ghost use mathlib.Core.Path.{_≡_};
 ghost use mathlib.Core.Bool.{true, cond};
+ghost use mathlib.Core.List.{List};
+ghost use Prim.Native.Nat.{ℕ};
 ghost use lib.ListN.{length};
 ghost use Rattle.entry.specs.Entry.{entryOf, beats};
 ghost use Rattle.image.specs.Layout.{slotWidth};
@@ -209,11 +212,18 @@ pub fn entry_at(store: &[u8], i: usize) -> Listed
     }
 }
 
-// Whether an entry with this stamp beats the one that a slot holds.
-fn beats_slot(slot: &[u8], key: &[u8], value: &[u8], flag: u8, stamp: Stamp) -> bool
-    ensures { λ r. ⌜ r ≡ beats (entryOf (now (key .entry)) (now (value .entry)) flag stamp) (slotEntry (now (slot .entry))) ⌝ }
+// Whether an entry beats the one that a slot holds.
+fn beats_slot(slot: &[u8], value: &[u8], flag: u8, stamp: Stamp) -> bool
+    ensures { λ r. ⌜ ((k : List ℕ) → r ≡ beats (entryOf k (now (value .entry)) flag stamp) (slotEntry (now (slot .entry)))) ⌝ }
 {
-    slot_stamp(slot).is_below(stamp)
+    beats(
+        value,
+        flag,
+        stamp,
+        slot_value(slot),
+        slot_flag(slot),
+        slot_stamp(slot),
+    )
 }
 
 // Where an acceptable entry goes in a store.
@@ -223,7 +233,7 @@ fn placement_of(store: &[u8], key: &[u8], value: &[u8], flag: u8, stamp: Stamp) 
     let place = seek(store, key);
     let at = place.at;
     if place.held {
-        if !beats_slot(slot(store, at), key, value, flag, stamp) {
+        if !beats_slot(slot(store, at), value, flag, stamp) {
             return Placement::Kept;
         }
         if !has_slot(store, at) {

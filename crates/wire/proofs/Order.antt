@@ -5,7 +5,7 @@ use native.Mathlib.Numerals.{add-one}
 use mathlib.Core.Path.{_≡_, refl, sym, ap, _∙_, ap₂}
 use mathlib.Core.Logic.{_⊎_, inl, inr}
 use mathlib.Core.Bool.{Bool, true, false, cond}
-use mathlib.Core.List.{List, [], _∷_}
+use mathlib.Core.List.{List, [], _∷_, _++_}
 use lib.ListN.{length, drop, getD, drop-of-length-le}
 use lib.Seq.{drop-cons, take-all}
 use lib.Dec.{ltb, eqb}
@@ -13,6 +13,7 @@ use borrow.Author.Tests.{ltb-true, ltb-false, eqb-true, eqb-false, lt-ltb, le-lt
 use Rattle.wire.proofs.Tests.{test, clash, false-of}
 use Rattle.wire.specs.declared.Comparison.the-variants.{Below, Same, Above}
 use Rattle.wire.specs.Order.{sameBytes, bytesBelow, comparison, startsWith}
+use Rattle.wire.specs.Meaning.{ProperPrefix, FirstLess, BytesBelowExactly}
 
 -- ---- two numbers decide, or, if they are equal, the rest
 unfoldable pub lex : ℕ → ℕ → Bool → Bool
@@ -121,6 +122,46 @@ bytesBelow-tied (a ∷ r) [] p q = clash refl q
 bytesBelow-tied (a ∷ r) (b ∷ s) p q =
     let t = lex-tied a b (bytesBelow r s) (bytesBelow s r) p q in
     ap₂ _∷_ (t .0) (bytesBelow-tied r s (t .1) (t .2))
+
+-- below: a prefix, or the lesser byte where they first differ
+prefix-below : (a : List ℕ) (x : ℕ) (r : List ℕ) → bytesBelow a (a ++ x ∷ r) ≡ true
+unfolding bytesBelow lex
+prefix-below [] x r = refl
+prefix-below (b ∷ a) x r = lex-same {a = b} (bytesBelow a (a ++ x ∷ r)) refl ∙ prefix-below a x r
+
+lesser-below : (f : List ℕ) (x y : ℕ) (r s : List ℕ) → x < y → bytesBelow (f ++ x ∷ r) (f ++ y ∷ s) ≡ true
+unfolding bytesBelow lex
+lesser-below [] x y r s h = lex-less (bytesBelow r s) h
+lesser-below (b ∷ f) x y r s h = lex-same {a = b} (bytesBelow (f ++ x ∷ r) (f ++ y ∷ s)) refl ∙ lesser-below f x y r s h
+
+below-by : (a b : List ℕ) → bytesBelow a b ≡ true → ProperPrefix a b ⊎ FirstLess a b
+unfolding bytesBelow lex
+below-by [] [] h = clash h refl
+below-by [] (y ∷ s) h = inl (record { next = y; rest = s; longer = refl })
+below-by (x ∷ r) [] h = clash h refl
+below-by (x ∷ r) (y ∷ s) h = elim (lex-true x y (bytesBelow r s) h) [
+  | inl p ↦ inr (record { front = []; less = x; less-rest = r; more = y; more-rest = s; first = refl; second = refl; differ = p })
+  | inr p ↦ elim (below-by r s (p .1)) [
+    | inl q ↦ inl (record { next = q .next; rest = q .rest; longer = ap₂ _∷_ (sym (p .0)) (q .longer) })
+    | inr q ↦ inr (record {
+      front = x ∷ q .front;
+      less = q .less;
+      less-rest = q .less-rest;
+      more = q .more;
+      more-rest = q .more-rest;
+      first = ap (_∷_ x) (q .first);
+      second = ap₂ _∷_ (sym (p .0)) (q .second);
+      differ = q .differ;
+    })
+  ]
+]
+
+pub bytes-below-exactly : BytesBelowExactly
+bytes-below-exactly a b = (below-by a b, below)
+  where
+    below : ProperPrefix a b ⊎ FirstLess a b → bytesBelow a b ≡ true
+    below (inl p) = rw (p .longer) (prefix-below a (p .next) (p .rest))
+    below (inr p) = rw (p .first, p .second) (lesser-below (p .front) (p .less) (p .more) (p .less-rest) (p .more-rest) (p .differ))
 
 -- ---- a comparison for sameness, byte by byte
 pub same-lengths : (a b : List ℕ) → (length a ≡ length b → ⊥) → sameBytes a b ≡ false

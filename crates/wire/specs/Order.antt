@@ -13,7 +13,7 @@ sameBytes [] (b ∷ s) = false
 sameBytes (a ∷ r) [] = false
 sameBytes (a ∷ r) (b ∷ s) = cond (eqb a b) (sameBytes r s) false
 
--- the first byte that differs decides; a prefix stands before the longer string (R108)
+-- the first byte that differs decides; a prefix stands before the longer string (R108, R256)
 unfoldable pub bytesBelow : List ℕ → List ℕ → Bool
 bytesBelow [] [] = false
 bytesBelow [] (b ∷ s) = true

@@ -1,7 +1,8 @@
 //! Single calls.
 
 use crate::inputs::{
-    deliveries, different_deliveries, key, peers, store, value, DELIVERED, HELD, NEW, OLD, SALT,
+    deliveries, different_deliveries, greater, key, last_greater, peers, store, value, DELIVERED,
+    HELD, NEW, OLD, SALT,
 };
 use crate::measure::{by, medians, on_copies, steady, timer_cost, Subject, ROUNDS};
 use crate::table::{self, nanoseconds, Row};
@@ -10,6 +11,7 @@ use reference::clock::Clock;
 use reference::frame::{Message, FRAME_MAX};
 use reference::peers::Admission;
 use reference::ring::PLACES_MAX;
+use reference::stamp::Stamp;
 use reference::{explain, node, ring, store as reference_store};
 use samples::script::{framed, put_message, repl_message};
 use snowpulley::audit::DELIVERIES_MAX;
@@ -149,34 +151,39 @@ fn handler_row(name: String, image: &[u8], frame: &[u8]) -> Row {
 }
 
 fn store_rows() -> Vec<Row> {
-    let mut rows = Vec::new();
-    for length in [33, 512] {
-        let (full, free) = (store(0, 100, length, HELD), store(0, 99, length, HELD));
-        let name = |what: &str| format!("{what}, {length} bytes");
-        let value = value(length);
-        rows.push(lookup_row(name("lookup, 100 used"), &full));
-        rows.push(offer_row(name("offer new, 99 used"), &free, 99, &value));
-        rows.push(offer_row(name("offer over, 100 used"), &full, 100, &value));
-        let newer = store(0, 100, length, NEW);
-        rows.push(merge_row(
-            name("merge 100 into 100, all newer"),
-            &full,
-            &newer,
-        ));
-        let older = store(0, 100, length, OLD);
-        rows.push(merge_row(
-            name("merge 100 into 100, all older"),
-            &full,
-            &older,
-        ));
-        let (even, odd) = (store(0, 50, length, HELD), store(1, 50, length, HELD));
-        rows.push(merge_row(
-            name("merge 50 into 50, no common key"),
-            &even,
-            &odd,
-        ));
-    }
-    rows
+    let rows = |length| [offer_rows(length), merge_rows(length)].concat();
+    [33, 512].into_iter().flat_map(rows).collect()
+}
+
+/// Lookups and offers. At an equal stamp the values differ at the last byte.
+fn offer_rows(length: usize) -> Vec<Row> {
+    let (full, free) = (store(0, 100, length, HELD), store(0, 99, length, HELD));
+    let name = |what: &str| format!("{what}, {length} bytes");
+    let (value, new, held) = (value(length), key(99), key(100));
+    let greater = greater(value.clone());
+    let equal = name("offer over at an equal stamp, 100 used");
+    vec![
+        lookup_row(name("lookup, 100 used"), &full),
+        offer_row(name("offer new, 99 used"), &free, &new, &value, NEW),
+        offer_row(name("offer over, 100 used"), &full, &held, &value, NEW),
+        offer_row(equal, &full, &held, &greater, HELD),
+    ]
+}
+
+fn merge_rows(length: usize) -> Vec<Row> {
+    let full = store(0, 100, length, HELD);
+    let (newer, older) = (store(0, 100, length, NEW), store(0, 100, length, OLD));
+    let (even, odd) = (store(0, 50, length, HELD), store(1, 50, length, HELD));
+    let stores = [
+        ("100 into 100, all newer", &full, &newer),
+        ("100 into 100, all older", &full, &older),
+        ("100 into 100, all the same", &full, &full),
+        ("50 into 50, no common key", &even, &odd),
+    ];
+    let row = |(what, image, giver): (&str, &Vec<u8>, &Vec<u8>)| {
+        merge_row(format!("merge {what}, {length} bytes"), image, giver)
+    };
+    stores.map(row).to_vec()
 }
 
 fn lookup_row(name: String, image: &[u8]) -> Row {
@@ -189,20 +196,19 @@ fn lookup_row(name: String, image: &[u8]) -> Row {
     })
 }
 
-fn offer_row(name: String, image: &[u8], number: usize, value: &[u8]) -> Row {
-    let key = &key(number);
+fn offer_row(name: String, image: &[u8], key: &[u8], value: &[u8], stamp: Stamp) -> Row {
     let entry = snowpulley::Entry {
         key,
         content: snowpulley::Content::Active(value),
         stamp: snowpulley::Stamp {
-            phys: NEW.phys,
-            logical: NEW.logical,
-            node: NEW.node,
+            phys: stamp.phys,
+            logical: stamp.logical,
+            node: stamp.node,
         },
     };
     let proved = move |store: &mut [u8]| snowpulley::store::offer(store, &entry).is_ok();
     let reference =
-        move |store: &mut [u8]| reference_store::offer(store, key, value, 0, NEW).is_ok();
+        move |store: &mut [u8]| reference_store::offer(store, key, value, 0, stamp).is_ok();
     same_store(&name, image, &proved, &reference);
     row(name, on_copies(image, proved), || {
         on_copies(image, reference)
@@ -287,6 +293,7 @@ fn explain_rows() -> Vec<Row> {
     vec![
         explain_row("stamps differ", &different_deliveries()),
         explain_row("one entry", &deliveries(|_| HELD)),
+        explain_row("one stamp, the last greater", &last_greater()),
     ]
 }
 
@@ -294,8 +301,8 @@ fn explain_row(what: &str, list: &[u8]) -> Row {
     let bytes = list.len() / DELIVERIES_MAX;
     let name = format!("explain, {DELIVERIES_MAX} deliveries of {bytes} bytes, {what}");
     let (mut reasons, mut others) = ([0; DELIVERIES_MAX], [0; DELIVERIES_MAX]);
-    snowpulley::audit::explain(list, &DELIVERED, &mut reasons);
-    explain::explain(list, &DELIVERED, &mut others);
+    snowpulley::audit::explain(list, &DELIVERED, &mut reasons).expect("a report");
+    explain::explain(list, &DELIVERED, &mut others).expect("a report");
     assert!(reasons == others, "{name}: the reasons differ");
     let proved =
         steady(move || snowpulley::audit::explain(black_box(list), &DELIVERED, &mut reasons));

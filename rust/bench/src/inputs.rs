@@ -32,6 +32,13 @@ pub fn value(length: usize) -> Vec<u8> {
     Rng::new(length as u64).bytes(length)
 }
 
+/// A greater value, which differs from this one at its last byte alone.
+pub fn greater(mut value: Vec<u8>) -> Vec<u8> {
+    let last = value.last_mut().expect("a value with a byte");
+    *last = last.checked_add(1).expect("a byte below 255");
+    value
+}
+
 /// A store of 100 slots that holds so many keys from `first` on, every
 /// second number.
 pub fn store(first: usize, used: usize, length: usize, stamp: Stamp) -> Vec<u8> {
@@ -58,6 +65,17 @@ pub fn deliveries(stamp: impl Fn(u64) -> Stamp) -> Vec<u8> {
 /// The longest list with a stamp of its own for each delivery, in no order.
 pub fn different_deliveries() -> Vec<u8> {
     deliveries(|place| at(place * 7 % DELIVERIES_MAX as u64))
+}
+
+/// The longest list with one stamp for all deliveries, of which the last has a
+/// greater value than the others.
+pub fn last_greater() -> Vec<u8> {
+    let value = greater(value(512));
+    let last = framed(&repl_message(&DELIVERED, HELD, Some(&value)));
+    let mut list = deliveries(|_| HELD);
+    list.truncate(list.len() - last.len());
+    list.extend(last);
+    list
 }
 
 /// Ten ids and a table with their rows, for both sides.

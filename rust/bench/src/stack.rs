@@ -5,8 +5,8 @@
 #![allow(unsafe_code)]
 
 use crate::inputs::{
-    deliveries, different_deliveries, key, peers, store, value, DELIVERED, HELD, NEW, OLD, SALT,
-    SLOTS,
+    deliveries, different_deliveries, greater, key, last_greater, peers, store, value, DELIVERED,
+    HELD, NEW, OLD, SALT, SLOTS,
 };
 use reference::frame::{Message, FRAME_MAX};
 use samples::script::{framed, put_message, repl_message};
@@ -206,7 +206,7 @@ fn images() -> [Vec<u8>; 2] {
 }
 
 fn stores(most: &mut Most) {
-    let value = value(512);
+    let value = greater(value(512));
     for image in images() {
         most.of("sp_store_create", &image, |store| {
             raw::store_create(store, SLOTS)
@@ -224,11 +224,13 @@ fn stores(most: &mut Most) {
             most.of("sp_store_lookup", &[0; 2], |place| {
                 raw::store_lookup(&image, &key, place)
             });
-            most.of("sp_store_offer", &image, |store| {
-                raw::store_offer(store, &key, &value, 0, NEW.phys, 0, 2)
-            });
+            for stamp in [HELD, NEW] {
+                most.of("sp_store_offer", &image, |store| {
+                    raw::store_offer(store, &key, &value, 0, stamp.phys, 0, 2)
+                });
+            }
         }
-        for stamp in [OLD, NEW] {
+        for stamp in [OLD, HELD, NEW] {
             let giver = store(0, SLOTS, 512, stamp);
             most.of("sp_store_merge", &image, |store| {
                 raw::store_merge(store, &giver)
@@ -258,21 +260,19 @@ fn requests_about(key: &[u8]) -> Vec<Message> {
         put_message(key, &value),
         Message::Del { key: key.to_vec() },
         repl_message(key, OLD, Some(&value)),
+        repl_message(key, HELD, Some(&greater(value.clone()))),
         repl_message(key, NEW, Some(&value)),
     ]
 }
 
-/// Lists with a winner, of one entry again and again, and with a conflict.
+/// Lists with a stamp for each delivery, of one entry again and again, and with
+/// one stamp and a last delivery that wins by its contents.
 fn reports(most: &mut Most) {
-    let conflicting = repl_message(&DELIVERED, HELD, None);
-    let mut conflict = deliveries(|_| HELD);
-    conflict.truncate(conflict.len() / DELIVERIES_MAX * (DELIVERIES_MAX - 1));
-    conflict.extend(framed(&conflicting));
-    for list in [different_deliveries(), deliveries(|_| HELD), conflict] {
+    for list in [different_deliveries(), deliveries(|_| HELD), last_greater()] {
         most.of("sp_deliveries", &[0u8], |_| raw::deliveries(&list));
         for key in [&DELIVERED[..], b"another", b""] {
             most.of("sp_explain", &[0; DELIVERIES_MAX], |reasons| {
-                raw::explain(&list, key, reasons) as u32
+                raw::explain(&list, key, reasons)
             });
         }
     }
@@ -284,10 +284,8 @@ mod tests {
     use std::fs;
     use std::path::Path;
 
-    /// What the documents and the header say, in KiB: of every call, but for
-    /// the report, which keeps marks of up to 1,000 deliveries.
+    /// What the documents and the header say of every call, in KiB.
     const MOST: usize = 18;
-    const REPORT: (&str, usize) = ("sp_explain", 33);
 
     fn text(below_root: &str) -> String {
         let package = Path::new(env!("CARGO_MANIFEST_DIR"));
@@ -296,18 +294,14 @@ mod tests {
 
     #[test]
     fn no_call_takes_more_than_is_said() {
-        let (reports, others): (Vec<_>, Vec<_>) = measured()
-            .into_iter()
-            .partition(|(name, _)| *name == REPORT.0);
-        for (calls, most) in [(reports, REPORT.1), (others, MOST)] {
-            let (name, bytes) = calls
-                .iter()
-                .max_by_key(|(_, bytes)| *bytes)
-                .expect("a call");
-            assert!(*bytes <= most * 1024, "{name}: {bytes} bytes");
-            assert!(*bytes > (most - 1) * 1024, "{name}: {bytes} bytes");
-        }
-        let said = format!("{MOST} KiB of stack (`{}` {} KiB)", REPORT.0, REPORT.1);
+        let calls = measured();
+        let (name, bytes) = calls
+            .iter()
+            .max_by_key(|(_, bytes)| *bytes)
+            .expect("a call");
+        assert!(*bytes <= MOST * 1024, "{name}: {bytes} bytes");
+        assert!(*bytes > (MOST - 1) * 1024, "{name}: {bytes} bytes");
+        let said = format!("{MOST} KiB of stack");
         let files = [
             "README.md",
             "docs/AUDIT.md",
@@ -317,10 +311,6 @@ mod tests {
         for file in files {
             let text = text(file);
             let words: Vec<&str> = text.split_whitespace().filter(|w| *w != "*").collect();
-            let said = match file.ends_with(".h") {
-                true => said.replace('`', ""),
-                false => said.clone(),
-            };
             assert!(words.join(" ").contains(&said), "{file}: '{said}'");
         }
     }

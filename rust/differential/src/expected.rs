@@ -2,12 +2,11 @@
 //! the same must come out. The names and parameters are those of `snowpulley::raw`.
 
 use reference::clock::Clock;
-use reference::explain::{self, Explained};
 use reference::frame::{self, Message};
 use reference::peers::{Admission, PeerTable, Row, ROWS_MAX};
 use reference::stamp::{check_time, Stamp};
 use reference::store::{self, Found, Offered};
-use reference::{checksum, deliveries, key, node, ring, Refusal};
+use reference::{checksum, deliveries, explain, key, node, ring, Refusal};
 
 const CLOCK_WORDS: usize = 4;
 const ROW_WORDS: usize = 6;
@@ -423,14 +422,7 @@ pub fn deliveries(list: &[u8]) -> u32 {
     counted(deliveries::read(list).map(|deliveries| deliveries.len()))
 }
 
-pub fn explain(list: &[u8], key: &[u8], reasons: &mut [u8]) -> u64 {
+pub fn explain(list: &[u8], key: &[u8], reasons: &mut [u8]) -> u32 {
     let explained = explain::explain(list, key, reasons);
-    let (later, earlier) = match explained {
-        Explained::Winner(place) => (0, place),
-        Explained::NoDelivery => (0, NO_DELIVERY),
-        Explained::Conflict { earlier, later } => (later, earlier),
-        Explained::Refused(_) => (0, 0),
-    };
-    let refusal = explained.refusal().map_or(0, Refusal::number);
-    u64::from(refusal) << 32 | (later as u64) << 16 | earlier as u64
+    counted(explained.map(|winner| winner.unwrap_or(NO_DELIVERY)))
 }

@@ -45,52 +45,28 @@ impl<A: Lent, B: Lent, C: Lent> Lent for (A, B, C) {
     }
 }
 
-/// What a call gives.
-pub trait Outcome: Copy + PartialEq {
-    /// The result that it is counted as, if it is: an answer, or a refusal in
-    /// the upper half.
-    fn counted_as(self) -> Option<u32>;
-
-    /// A text for a report.
-    fn shown(self) -> String;
-}
-
-fn is_refusal(number: u32) -> bool {
-    u8::try_from(number).is_ok_and(|n| Refusal::from_number(n).is_some())
-}
-
-/// A result of the header, or another number.
-impl Outcome for u32 {
-    fn counted_as(self) -> Option<u32> {
-        // Other results are counts, or no results with two halves.
-        match (self >> 16, self & 0xFFFF) {
-            (0, 0..=2) => Some(self),
-            (refusal, _) if is_refusal(refusal) => Some(refusal << 16),
-            _ => None,
-        }
-    }
-
-    fn shown(self) -> String {
-        let (refusal, answer) = (self >> 16, self & 0xFFFF);
-        format!("{self:#010x} (as a result: refusal {refusal}, answer {answer})")
-    }
-}
-
 /// What a run has compared.
 #[derive(Debug, Default)]
 pub struct Tally {
     /// The number of calls.
     pub compared: u64,
     /// How often each call was refused, by the refusal, and how often it gave
-    /// an answer that is counted, by the result; and what else a family counts.
+    /// 0, 1 or 2, by the result; and what else a family counts.
     pub met: BTreeMap<(&'static str, u32), u64>,
 }
 
+fn is_refusal(number: u32) -> bool {
+    u8::try_from(number).is_ok_and(|n| Refusal::from_number(n).is_some())
+}
+
 impl Tally {
-    fn add(&mut self, call: &'static str, outcome: impl Outcome) {
+    fn add(&mut self, call: &'static str, result: u32) {
         self.compared += 1;
-        if let Some(result) = outcome.counted_as() {
-            self.count(call, result);
+        // Other results are counts, or no results with two halves.
+        match (result >> 16, result & 0xFFFF) {
+            (0, 0..=2) => self.count(call, result),
+            (refusal, _) if is_refusal(refusal) => self.count(call, refusal << 16),
+            _ => (),
         }
     }
 
@@ -115,13 +91,13 @@ pub struct Run {
 impl Run {
     /// Makes the call on both sides, each on its own copy of what is lent.
     /// Panics where they differ; else `lent` is as the call left it.
-    pub fn same<B: Lent, R: Outcome>(
+    pub fn same<B: Lent>(
         &mut self,
         call: &'static str,
         lent: &mut B,
-        proved: impl FnOnce(&mut B) -> R,
-        reference: impl FnOnce(&mut B) -> R,
-    ) -> R {
+        proved: impl FnOnce(&mut B) -> u32,
+        reference: impl FnOnce(&mut B) -> u32,
+    ) -> u32 {
         let mut copy = lent.clone();
         let got = proved(&mut copy);
         let want = reference(lent);
@@ -138,13 +114,7 @@ impl Run {
         self.tally.count(what, number);
     }
 
-    fn stop(
-        &self,
-        call: &str,
-        got: impl Outcome,
-        want: impl Outcome,
-        buffers: Option<String>,
-    ) -> ! {
+    fn stop(&self, call: &str, got: u32, want: u32, buffers: Option<String>) -> ! {
         panic!(
             "family {}, seed {}, case {}, call {call}:\n\
              proved    {}\n\
@@ -153,11 +123,16 @@ impl Run {
             self.family,
             self.seed,
             self.case,
-            got.shown(),
-            want.shown(),
+            shown(got),
+            shown(want),
             buffers.unwrap_or("equal".to_string()),
         )
     }
+}
+
+fn shown(result: u32) -> String {
+    let (refusal, answer) = (result >> 16, result & 0xFFFF);
+    format!("{result:#010x} (as a result: refusal {refusal}, answer {answer})")
 }
 
 /// Runs so many cases. A case's numbers come from the seed and its own

@@ -1,6 +1,7 @@
 //! Every family with fixed seeds. The cases must also reach every refusal
 //! that the header names for a call, and each of its answers.
 
+use differential::families::reused::{LOWER_TIES, TIES};
 use differential::FAMILIES;
 
 /// How many shares of cases each family runs, from several seeds.
@@ -81,32 +82,41 @@ fn ring() {
 
 #[test]
 fn store() {
-    let reach: [Reach; 6] = [
+    let reach: [Reach; 8] = [
         ("store_create", &[0], &[17, 4]),
         ("store_is_sound", &[0, 1], &[]),
         ("store_lookup", &[0, 1, 2], &[5, 1, 4]),
         ("store_entry", &[0], &[5, 17, 4]),
         ("store_offer", &[0, 1, 2], &[5, 9, 1, 2, 17, 6]),
         ("store_merge", &[0], &[5, 6]),
+        ("offer at an equal stamp", &TIES, &[]),
+        ("merge at an equal stamp", &TIES, &[]),
     ];
     run("store", &reach);
 }
 
 #[test]
 fn handler() {
-    let reach: [Reach; 1] = [("handle", &[], &[17, 4, 5, 9, 3, 1, 2, 8, 7, 6])];
+    let reach: [Reach; 3] = [
+        ("handle", &[], &[17, 4, 5, 9, 3, 1, 2, 8, 7, 6]),
+        ("local write at an equal stamp", &TIES, &[]),
+        ("REPL at an equal stamp", &TIES, &[]),
+    ];
     run("handler", &reach);
 }
 
-/// The answers of `explain` are the winner's place (0) and NONE (1). A list
-/// of 1,001 frames is refused as any other that is not readable.
+/// The winner is 65,535 where the key was never delivered. A list of 1,001
+/// frames is refused as any other that is not readable.
 #[test]
 fn explain() {
-    let reach: [Reach; 5] = [
+    let reach: [Reach; 8] = [
         ("deliveries", &[0, 1, 2], &[17]),
         ("readable", &[0, 1, 2, 3, 20, 1000], &[]),
-        ("explain", &[0, 1], &[17, 1, 30, 4]),
-        ("reason", &[0, 1, 2, 3, 4, 5], &[]),
+        ("explain", &[], &[17, 1, 4]),
+        ("winner", &[0, 1, 2, 3, 20, 65_535], &[]),
+        ("reason", &[0, 1, 2, 3, 4, 5, 6], &[]),
+        ("lower contents before the winner", &LOWER_TIES, &[]),
+        ("lower contents behind the winner", &LOWER_TIES, &[]),
         ("frames", &[1001], &[]),
     ];
     run("explain", &reach);

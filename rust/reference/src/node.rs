@@ -4,7 +4,7 @@ use crate::clock::Clock;
 use crate::frame::{self, Message, FRAME_MAX};
 use crate::refusal::Refusal;
 use crate::stamp::{check_time, Stamp};
-use crate::store::{self, Found, Offered};
+use crate::store::{self, Found};
 use crate::value::{ACTIVE, TOMBSTONE};
 
 /// The outcome of one request.
@@ -87,6 +87,8 @@ fn is_reply_type(frame: &[u8]) -> bool {
     frame.get(2).is_some_and(|&kind| kind >= frame::OK)
 }
 
+/// A local write must have a greater stamp than what it is to replace, whatever
+/// the two hold.
 fn write_locally(
     clock: Clock,
     store: &mut [u8],
@@ -96,10 +98,12 @@ fn write_locally(
     flag: u8,
 ) -> Result<(Clock, Message), Refusal> {
     let next = clock.send(now)?;
-    match store::offer_to_sound(store, key, value, flag, next.stamp())? {
-        Offered::Kept => Err(Refusal::Overtaken),
-        Offered::Stored | Offered::Replaced => Ok((next, Message::Ok)),
+    let stamp = next.stamp();
+    if store::stamp_in_sound(store, key).is_some_and(|held| held >= stamp) {
+        return Err(Refusal::Overtaken);
     }
+    store::offer_to_sound(store, key, value, flag, stamp)?;
+    Ok((next, Message::Ok))
 }
 
 fn get(store: &[u8], key: &[u8]) -> Message {

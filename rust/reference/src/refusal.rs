@@ -35,7 +35,6 @@ refusals! {
     SelfPeer = 15,
     BadRing = 16,
     BadArgument = 17,
-    Conflict = 30,
 }
 
 impl Refusal {

@@ -26,6 +26,15 @@ pub struct Entry {
     pub stamp: Stamp,
 }
 
+impl Entry {
+    /// Of two entries of a key the one with the greater rank is in force: the
+    /// stamp decides, then the flag, which is greater of a tombstone, then the
+    /// value, byte by byte and then by length.
+    pub fn rank(&self) -> (Stamp, u8, &[u8]) {
+        (self.stamp, self.flag, &self.value)
+    }
+}
+
 /// What became of an offered entry.
 #[derive(Clone, Copy, Debug, PartialEq, Eq)]
 pub enum Offered {
@@ -195,6 +204,12 @@ pub(crate) fn lookup_in_sound<'a>(store: &'a [u8], key: &[u8]) -> (Found, &'a [u
     }
 }
 
+/// The stamp of the key's entry, if one is held.
+pub(crate) fn stamp_in_sound(store: &[u8], key: &[u8]) -> Option<Stamp> {
+    let index = find(store, key).ok()?;
+    Some(slot_stamp(slot_at(store, index)))
+}
+
 /// Every held entry in key order.
 pub fn entries(store: &[u8]) -> Result<Vec<Entry>, Refusal> {
     if !is_sound(store) {
@@ -219,7 +234,7 @@ fn entry_of(slot: &[u8]) -> Entry {
     }
 }
 
-/// Offers one entry; the greater stamp stays.
+/// Offers one entry; the one with the greater rank stays.
 pub fn offer(
     store: &mut [u8],
     key: &[u8],
@@ -254,7 +269,7 @@ pub(crate) fn offer_to_sound(
         stamp,
     };
     match find(store, key) {
-        Ok(index) if slot_stamp(slot_at(store, index)) >= stamp => Ok(Offered::Kept),
+        Ok(index) if entry_of(slot_at(store, index)).rank() >= entry.rank() => Ok(Offered::Kept),
         Ok(index) => {
             write_slot(store, index, &entry);
             Ok(Offered::Replaced)
@@ -307,7 +322,9 @@ pub fn merge(receiver: &mut [u8], giver: &[u8]) -> Result<(), Refusal> {
         held.insert(entry.key.clone(), entry);
     }
     for entry in entries(giver)? {
-        let kept = held.get(&entry.key).is_some_and(|h| h.stamp >= entry.stamp);
+        let kept = held
+            .get(&entry.key)
+            .is_some_and(|h| h.rank() >= entry.rank());
         if !kept {
             held.insert(entry.key.clone(), entry);
         }

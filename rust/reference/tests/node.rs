@@ -1,11 +1,15 @@
 //! The request handler.
 
+mod contents;
+
+use contents::ascending;
 use reference::clock::Clock;
 use reference::frame::{read, sealed, Message};
 use reference::node::{handle, Answer};
 use reference::stamp::Stamp;
 use reference::store::{create, entries, image_length, is_sound, offer};
 use reference::Refusal;
+use std::cmp::Ordering;
 use std::collections::BTreeMap;
 use support::Rng;
 
@@ -155,7 +159,7 @@ fn replicated_entries_keep_their_stamps() {
         }
     );
     let before = node.store.clone();
-    node.ok(1000, &repl(b"near", 0, stamp(3000, 8, 9), b"z"));
+    node.ok(1000, &repl(b"near", 0, stamp(3000, 8, 9), b"x"));
     node.ok(1000, &repl(b"near", 1, stamp(2999, 9, 9), b""));
     assert_eq!(node.store, before);
     assert_eq!(
@@ -191,6 +195,46 @@ fn local_writes_can_be_overtaken() {
     node.refused(9000, &put(b"k", b"equal stamp"), Refusal::Overtaken);
     node.ok(9001, &put(b"k", b"mine"));
     assert_eq!(node.ask(9001, &get(b"k")), value(b"mine"));
+}
+
+/// The flag and the value that are held for the one key.
+fn held(node: &Node) -> (u8, Vec<u8>) {
+    let entry = entries(&node.store).unwrap().remove(0);
+    (entry.flag, entry.value)
+}
+
+#[test]
+fn local_writes_at_an_equal_stamp_are_overtaken_whatever_they_hold() {
+    for there in ascending() {
+        for mine in ascending() {
+            let mut node = Node::new(1);
+            let (flag, bytes) = &there;
+            node.ok(1000, &repl(b"k", *flag, stamp(9000, 0, 1), bytes));
+            let write = match &mine {
+                (0, bytes) => put(b"k", bytes),
+                _ => del(b"k"),
+            };
+            node.refused(9000, &write, Refusal::Overtaken);
+            assert_eq!(held(&node), there);
+            node.ok(9001, &write);
+            assert_eq!(held(&node), mine);
+        }
+    }
+}
+
+#[test]
+fn replicated_entries_at_an_equal_stamp_are_compared() {
+    let contents = ascending();
+    for (i, first) in contents.iter().enumerate() {
+        for (j, second) in contents.iter().enumerate() {
+            let mut node = Node::new(1);
+            for (flag, bytes) in [first, second] {
+                node.ok(1000, &repl(b"k", *flag, stamp(1000, 5, 2), bytes));
+            }
+            assert_eq!(held(&node), contents[i.max(j)]);
+            assert_eq!(node.clock, clock(1000, 7));
+        }
+    }
 }
 
 #[test]
@@ -309,15 +353,37 @@ fn times_are_checked_for_every_request() {
     node.refused(0, &[], Refusal::BadTime);
 }
 
+/// Entries by their keys; one without a value is a tombstone.
+type Held = BTreeMap<Vec<u8>, (Stamp, Option<Vec<u8>>)>;
+
+fn held_by(store: &[u8]) -> Held {
+    let entries = entries(store).unwrap().into_iter();
+    entries
+        .map(|e| (e.key, (e.stamp, (e.flag == 0).then_some(e.value))))
+        .collect()
+}
+
 /// The handler's rules once more, over a map.
 struct Naive {
     slots: usize,
     clock: (u64, u64),
     skew: u32,
-    held: BTreeMap<Vec<u8>, (Stamp, Option<Vec<u8>>)>,
+    held: Held,
+    /// How each entry that came with a held stamp compared with the held one.
+    ties: Vec<Ordering>,
 }
 
 impl Naive {
+    fn new(slots: usize) -> Naive {
+        Naive {
+            slots,
+            clock: (0, 0),
+            skew: 0,
+            held: Held::new(),
+            ties: Vec::new(),
+        }
+    }
+
     fn answer(&mut self, now: u64, request: &Message) -> Message {
         let outcome = match request {
             Message::Put { key, value } => self.local(now, key, Some(value.clone())),
@@ -375,12 +441,25 @@ impl Naive {
         if next.1 > 65_535 {
             return Err(8);
         }
-        if self.held.get(key).is_none_or(|(held, _)| *held < stamp) {
+        if self.is_above(key, stamp, value.as_ref()) {
             self.hold(key, stamp, value)?;
         }
         self.clock = next;
         self.skew += u32::from(far);
         Ok(())
+    }
+
+    /// Whether an entry is above the held one of its key, if there is one.
+    fn is_above(&mut self, key: &[u8], stamp: Stamp, value: Option<&Vec<u8>>) -> bool {
+        let Some((held, old)) = self.held.get(key) else {
+            return true;
+        };
+        if stamp != *held {
+            return stamp > *held;
+        }
+        let (new, old) = ((value.is_none(), value), (old.is_none(), old.as_ref()));
+        self.ties.push(new.cmp(&old));
+        new > old
     }
 
     fn hold(&mut self, key: &[u8], stamp: Stamp, value: Option<Vec<u8>>) -> Result<(), u8> {
@@ -426,23 +505,43 @@ fn random_request(rng: &mut Rng, now: u64) -> Message {
     }
 }
 
+/// A REPL with the key and the stamp of a held entry, if there is one.
+fn tied_request(rng: &mut Rng, held: &Held) -> Option<Message> {
+    let (key, (stamp, value)) = held.iter().nth(rng.index(held.len().max(1)))?;
+    let mut value = value.clone().unwrap_or_default();
+    let flag = u8::from(rng.one_in(4));
+    match rng.below(4) {
+        _ if flag == 1 => value.clear(),
+        0 => value.push(rng.byte()),
+        1 => value.truncate(rng.index(3)),
+        2 => value = rng.bytes(2),
+        _ => {}
+    }
+    Some(Message::Repl {
+        key: key.clone(),
+        flag,
+        stamp: *stamp,
+        value,
+    })
+}
+
+fn next_request(rng: &mut Rng, now: u64, held: &Held) -> Message {
+    let tied = rng.one_in(6).then(|| tied_request(rng, held)).flatten();
+    tied.unwrap_or_else(|| random_request(rng, now))
+}
+
 #[test]
 fn random_requests_agree_with_the_naive_handler() {
     let mut rng = Rng::new(15);
     let mut numbers = [0; 256];
+    let mut ties = Vec::new();
     for round in 0..60 {
         let mut node = Node::new(1 + round % 8);
-        let held = BTreeMap::new();
-        let mut naive = Naive {
-            slots: 1 + round % 8,
-            clock: (0, 0),
-            skew: 0,
-            held,
-        };
+        let mut naive = Naive::new(1 + round % 8);
         let mut now = 0;
         for _ in 0..300 {
             now = (now + rng.below(12)).saturating_sub(rng.below(10));
-            let request = random_request(&mut rng, now);
+            let request = next_request(&mut rng, now, &naive.held);
             let reply = node.ask(now, &framed(&request));
             assert_eq!(reply, naive.answer(now, &request));
             assert_eq!(
@@ -455,9 +554,13 @@ fn random_requests_agree_with_the_naive_handler() {
             }
         }
         assert!(is_sound(&node.store));
-        assert_eq!(entries(&node.store).unwrap().len(), naive.held.len());
+        assert_eq!(held_by(&node.store), naive.held);
+        ties.extend(naive.ties);
     }
     for number in [3, 6, 7, 8] {
         assert!(numbers[number] > 10, "{numbers:?}");
+    }
+    for order in [Ordering::Less, Ordering::Equal, Ordering::Greater] {
+        assert!(ties.iter().filter(|tie| **tie == order).count() > 100);
     }
 }

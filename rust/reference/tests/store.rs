@@ -1,5 +1,8 @@
 //! The entry store.
 
+mod contents;
+
+use contents::ascending;
 use reference::checksum::crc32c_bits;
 use reference::stamp::Stamp;
 use reference::store::{
@@ -84,7 +87,7 @@ fn the_three_outcomes_of_an_offer() {
     let held = image.clone();
     assert_eq!(give(&mut image, b"k", b"4", 4), Ok(Offered::Kept));
     assert_eq!(give(&mut image, b"k", b"5", 5), Ok(Offered::Kept));
-    assert_eq!(give(&mut image, b"k", b"other", 5), Ok(Offered::Kept));
+    assert_eq!(give(&mut image, b"k", b"other", 4), Ok(Offered::Kept));
     assert_eq!(image, held);
     assert_eq!(give(&mut image, b"k", b"6", 6), Ok(Offered::Replaced));
     assert_eq!(value(&image, b"k"), b"6");
@@ -103,6 +106,49 @@ fn offers_compare_phys_first() {
     assert_eq!(at(10, 0, 255), Ok(Offered::Kept));
     assert_eq!(at(11, 0, 0), Ok(Offered::Replaced));
     assert_eq!(at(LATE - 1, 65_535, 255), Ok(Offered::Replaced));
+}
+
+/// A store of one slot after these offers of `k`, all with one stamp.
+fn holding(offers: &[&(u8, Vec<u8>)]) -> Vec<u8> {
+    let mut image = fresh(1);
+    for (flag, value) in offers {
+        offer(&mut image, b"k", value, *flag, stamp(5, 6, 7)).unwrap();
+    }
+    image
+}
+
+#[test]
+fn equal_stamps_are_decided_by_the_contents() {
+    let contents = ascending();
+    for held in 0..contents.len() {
+        for offered in 0..contents.len() {
+            let mut image = holding(&[&contents[held]]);
+            let (flag, value) = &contents[offered];
+            let answer = offer(&mut image, b"k", value, *flag, stamp(5, 6, 7));
+            let (expected, stays) = if offered > held {
+                (Offered::Replaced, offered)
+            } else {
+                (Offered::Kept, held)
+            };
+            assert_eq!(answer, Ok(expected), "{offered} to {held}");
+            assert_eq!(image, holding(&[&contents[stays]]));
+        }
+    }
+}
+
+#[test]
+fn stamps_come_before_contents() {
+    let mut image = holding(&[&(1, vec![])]);
+    for above in [stamp(5, 6, 8), stamp(5, 7, 7), stamp(6, 6, 7)] {
+        let answer = offer(&mut image, b"k", b"", 0, above);
+        assert_eq!(answer, Ok(Offered::Replaced));
+    }
+    let held = image.clone();
+    for below in [stamp(6, 6, 6), stamp(6, 5, 7), stamp(5, 6, 7)] {
+        let answer = offer(&mut image, b"k", b"", 1, below);
+        assert_eq!(answer, Ok(Offered::Kept));
+    }
+    assert_eq!(image, held);
 }
 
 #[test]
@@ -251,16 +297,24 @@ fn merging_refusals_and_repeats() {
     assert_eq!(copy, same);
 }
 
+/// The same entries in any order, over one store or two that merge.
 #[test]
-fn merging_keeps_the_held_entry_of_an_equal_stamp() {
-    let (mut receiver, mut giver) = (fresh(2), fresh(2));
-    give(&mut receiver, b"k", b"held", 5).unwrap();
-    give(&mut giver, b"k", b"given", 5).unwrap();
-    let held = receiver.clone();
-    assert_eq!(merge(&mut receiver, &giver), Ok(()));
-    assert_eq!(receiver, held);
-    assert_eq!(merge(&mut giver, &held), Ok(()));
-    assert_eq!(value(&giver, b"k"), b"given");
+fn any_order_at_one_stamp_ends_alike() {
+    let contents = ascending();
+    let number = contents.len();
+    for sequence in 0..number.pow(3) {
+        let places = [sequence, sequence / number, sequence / number.pow(2)].map(|n| n % number);
+        let offers = places.map(|place| &contents[place]);
+        let greatest = holding(&[&contents[*places.iter().max().unwrap()]]);
+        for split in 0..=offers.len() {
+            let mut one = holding(&offers[..split]);
+            let mut two = holding(&offers[split..]);
+            let before = one.clone();
+            assert_eq!(merge(&mut one, &two), Ok(()));
+            assert_eq!(merge(&mut two, &before), Ok(()));
+            assert!(one == greatest && two == greatest, "{places:?}, {split}");
+        }
+    }
 }
 
 #[test]
@@ -269,7 +323,7 @@ fn merging_is_offering_each_entry() {
     for _ in 0..300 {
         let mut stores = [fresh(7), fresh(7)];
         for _ in 0..12 {
-            let (key, stamp, flag, value) = random_entry(&mut rng, true);
+            let (key, stamp, flag, value) = random_entry(&mut rng);
             let store = &mut stores[rng.index(2)];
             offer(store, &key, &value, flag, stamp).unwrap();
         }
@@ -408,7 +462,8 @@ fn reserved_keys_in_a_slot_are_found() {
     assert_unsound(&image);
 }
 
-/// One delivered entry: key, stamp, flag, value.
+/// One delivered entry: key, stamp, flag, value. They are compared in that
+/// order.
 type Delivered = (Vec<u8>, Stamp, u8, Vec<u8>);
 
 /// Says what every call must answer, from the entries delivered alone.
@@ -433,13 +488,20 @@ impl Book {
         if keys.len() > self.slots[store] {
             return Err(Refusal::StoreFull);
         }
-        let is_greatest = set.iter().all(|e| e.0 != entry.0 || e.1 < entry.1);
+        let is_greatest = set.iter().all(|e| e.0 != entry.0 || e < entry);
         set.insert(entry.clone());
         Ok(match (is_new, is_greatest) {
             (true, _) => Offered::Stored,
             (false, true) => Offered::Replaced,
             (false, false) => Offered::Kept,
         })
+    }
+
+    /// Whether an entry with this one's key and stamp and other contents was
+    /// delivered.
+    fn is_tied(&self, store: usize, entry: &Delivered) -> bool {
+        let mut set = self.sets[store].iter();
+        set.any(|e| (&e.0, e.1) == (&entry.0, entry.1) && e != entry)
     }
 
     fn merge(&mut self, receiver: usize, giver: usize) -> Result<(), Refusal> {
@@ -452,12 +514,12 @@ impl Book {
         Ok(())
     }
 
-    /// The greatest-stamped entry of each key.
+    /// The greatest entry of each key.
     fn held(&self, store: usize) -> BTreeMap<&[u8], &Delivered> {
         let mut held: BTreeMap<&[u8], &Delivered> = BTreeMap::new();
         for entry in &self.sets[store] {
             let greatest = held.entry(&entry.0).or_insert(entry);
-            if entry.1 > greatest.1 {
+            if entry > *greatest {
                 *greatest = entry;
             }
         }
@@ -505,30 +567,29 @@ fn first_fault((key, stamp, flag, value): &Delivered) -> Result<(), Refusal> {
     }
 }
 
-/// An entry from a small choice of keys and stamps. With `tied` two entries
-/// may share key and stamp and differ in value; else the value follows from
-/// them.
-fn random_entry(rng: &mut Rng, tied: bool) -> Delivered {
+/// An entry from a small choice of keys, stamps and contents, so that entries
+/// often share key and stamp, and often differ then.
+fn random_entry(rng: &mut Rng) -> Delivered {
     let keys = [&b"a"[..], b"ab", b"b", b"k\0", b"k", &[255; 64], b"z"];
     let key = keys[rng.index(keys.len())].to_vec();
-    let stamp = stamp(rng.below(4), rng.below(3) as u16, rng.below(3) as u8);
-    let mut source =
-        Rng::new(stamp.phys * 9 + u64::from(stamp.logical) * 3 + u64::from(stamp.node));
-    let source = if tied { rng } else { &mut source };
-    if source.one_in(3) {
+    let stamp = stamp(rng.below(3), rng.below(2) as u16, rng.below(2) as u8);
+    if rng.one_in(4) {
         return (key, stamp, 1, Vec::new());
     }
-    let length = if source.one_in(5) {
-        512
+    let length = if rng.one_in(5) {
+        511 + rng.index(2)
     } else {
-        source.index(9)
+        rng.index(4)
     };
-    let value = source.bytes(length);
+    let mut value = vec![1; length];
+    if let Some(last) = value.last_mut() {
+        *last = rng.below(3) as u8;
+    }
     (key, stamp, 0, value)
 }
 
 fn random_unacceptable(rng: &mut Rng) -> Delivered {
-    let mut entry = random_entry(rng, true);
+    let mut entry = random_entry(rng);
     while first_fault(&entry).is_ok() {
         for fault in 0..5 {
             match fault {
@@ -544,9 +605,10 @@ fn random_unacceptable(rng: &mut Rng) -> Delivered {
     entry
 }
 
-/// Runs one random history and compares every answer with the book. Without
-/// ties every image is compared too, after each call.
-fn run_history(rng: &mut Rng, slots: &[usize], tied: bool) -> Vec<Result<Offered, Refusal>> {
+/// Runs one random history and compares every answer and, after each call, the
+/// image with the book. Given are the answers to offers, with whether another
+/// entry of that key and stamp was there before.
+fn run_history(rng: &mut Rng, slots: &[usize]) -> Vec<(Result<Offered, Refusal>, bool)> {
     let mut book = Book::new(slots);
     let mut stores: Vec<Vec<u8>> = slots.iter().map(|&c| fresh(c)).collect();
     let mut answers = Vec::new();
@@ -561,16 +623,15 @@ fn run_history(rng: &mut Rng, slots: &[usize], tied: bool) -> Vec<Result<Offered
             let entry = if bad {
                 random_unacceptable(rng)
             } else {
-                random_entry(rng, tied)
+                random_entry(rng)
             };
             let (key, stamp, flag, value) = &entry;
+            let tied = book.is_tied(at, &entry);
             let answer = offer(&mut stores[at], key, value, *flag, *stamp);
             assert_eq!(answer, book.offer(at, &entry));
-            answers.push(answer);
+            answers.push((answer, tied));
         }
-        if !tied {
-            assert_eq!(stores[at], book.image(at));
-        }
+        assert_eq!(stores[at], book.image(at));
         assert!(is_sound(&stores[at]));
     }
     answers
@@ -582,19 +643,22 @@ fn random_histories_agree_with_the_delivery_book() {
     let mut seen = Vec::new();
     for slots in [[1, 1, 1], [3, 3, 3], [5, 5, 5], [7, 7, 7], [8, 8, 8]] {
         for _ in 0..20 {
-            seen.extend(run_history(&mut rng, &slots, false));
+            seen.extend(run_history(&mut rng, &slots));
         }
     }
-    for answer in [
-        Ok(Offered::Stored),
-        Ok(Offered::Replaced),
-        Ok(Offered::Kept),
+    for (offered, tied) in [
+        (Offered::Stored, false),
+        (Offered::Replaced, false),
+        (Offered::Kept, false),
+        (Offered::Replaced, true),
+        (Offered::Kept, true),
     ] {
-        assert!(seen.contains(&answer));
+        let times = seen.iter().filter(|s| **s == (Ok(offered), tied)).count();
+        assert!(times > 50, "{offered:?} {tied} {times}");
     }
     for number in [1, 2, 6, 9, 17] {
         let refusal = Refusal::from_number(number).unwrap();
-        assert!(seen.contains(&Err(refusal)), "{number}");
+        assert!(seen.contains(&(Err(refusal), false)), "{number}");
     }
 }
 
@@ -603,17 +667,7 @@ fn random_histories_with_unequal_slot_counts() {
     let mut rng = Rng::new(11);
     for slots in [[1, 4, 7], [2, 9, 3]] {
         for _ in 0..20 {
-            run_history(&mut rng, &slots, false);
-        }
-    }
-}
-
-#[test]
-fn random_histories_with_ties_answer_alike() {
-    let mut rng = Rng::new(12);
-    for slots in [[3, 3, 3], [5, 5, 5], [2, 5, 9]] {
-        for _ in 0..20 {
-            run_history(&mut rng, &slots, true);
+            run_history(&mut rng, &slots);
         }
     }
 }
@@ -622,8 +676,7 @@ fn random_histories_with_ties_answer_alike() {
 fn equal_sets_have_equal_bytes() {
     let mut rng = Rng::new(13);
     for _ in 0..100 {
-        let mut deliveries: Vec<Delivered> =
-            (0..20).map(|_| random_entry(&mut rng, false)).collect();
+        let mut deliveries: Vec<Delivered> = (0..40).map(|_| random_entry(&mut rng)).collect();
         let mut images = Vec::new();
         for _ in 0..3 {
             for i in (1..deliveries.len()).rev() {

@@ -1,6 +1,6 @@
 //! The sample journal. It gets every reply and every refusal a replay can
-//! give; the times and stamps are chosen so that a wrong step of the clock or
-//! a wrong comparison of stamps changes a later reply.
+//! give; the times, stamps and values are chosen so that a wrong step of the
+//! clock or a wrong comparison of entries changes a later reply.
 
 use crate::script::{err, framed, put_message, repl_message, stamp, value, Script};
 use reference::frame::{self, sealed, Message};
@@ -21,6 +21,7 @@ pub fn script() -> Script {
     far_ahead(&mut script);
     overtaken_leaves_the_clock(&mut script);
     ahead_by_the_limit(&mut script);
+    reused_stamps(&mut script);
     spent_clock(&mut script);
     bad_keys_and_values(&mut script);
     bad_forms(&mut script);
@@ -92,7 +93,7 @@ fn stamp_order(s: &mut Script) {
     s.repl(at, b"s", stamp(at, 0, 0), Some(b"lower node"), OK);
     s.get(at, b"s", value(b"local"));
     s.repl(at, b"s", stamp(at, 0, 1), Some(b"same stamp"), OK);
-    s.get(at, b"s", value(b"local"));
+    s.get(at, b"s", value(b"same stamp"));
     s.repl(at, b"s", stamp(at, 0, 2), Some(b"node"), OK);
     s.get(at, b"s", value(b"node"));
     s.repl(at, b"s", stamp(at, 9, 0), Some(b"count"), OK);
@@ -156,6 +157,33 @@ fn ahead_by_the_limit(s: &mut Script) {
     s.get(28_500, b"j", value(b"mine again"));
     s.repl(28_500, b"j", stamp(29_000, 11, 2), Some(b"theirs"), OK);
     s.get(28_500, b"j", value(b"theirs"));
+}
+
+fn reused_stamps(s: &mut Script) {
+    let (now, far) = (33_000, stamp(36_000, 0, 1));
+    let deliveries: [(&[u8], &[u8]); 7] = [
+        (b"on", b"on"),
+        (b"off", b"on"),
+        (b"o", b"on"),
+        (b"", b"on"),
+        (b"on\0", b"on\0"),
+        (b"on", b"on\0"),
+        (b"p", b"p"),
+    ];
+    for (given, held) in deliveries {
+        s.repl(now, b"s", far, Some(given), OK);
+        s.get(now, b"s", value(held));
+    }
+    // A local write needs a greater stamp, whatever it writes.
+    s.put(36_000, b"s", b"q", err(7));
+    s.del(36_000, b"s", err(7));
+    s.get(now, b"s", value(b"p"));
+    s.repl(now, b"s", far, None, OK);
+    s.get(now, b"s", NOTFOUND);
+    s.repl(now, b"s", far, Some(b"q"), OK);
+    s.get(now, b"s", NOTFOUND);
+    s.put(36_001, b"s", b"mine", OK);
+    s.get(now, b"s", value(b"mine"));
 }
 
 fn spent_clock(s: &mut Script) {

@@ -4,7 +4,8 @@ mod common;
 
 use common::{file, here, run, run_with, temporary, Run};
 use reference::frame::sealed;
-use reference::store::{create, image_length, offer, value};
+use reference::store::{create, entries, image_length, offer, value, Entry};
+use reference::value::{ACTIVE, TOMBSTONE};
 use samples::script::{framed, put_message, record, repl_message, stamp};
 use support::Rng;
 
@@ -61,7 +62,7 @@ fn which_one_is_in_force_and_why_not_the_others() {
     );
 }
 
-/// The latest time, long values of all kinds, and the longest outcomes.
+/// The latest time, long values of all kinds, and the longest outcome.
 #[test]
 fn tables_have_at_most_120_columns() {
     let last = (1 << 48) - 1;
@@ -70,17 +71,13 @@ fn tables_have_at_most_120_columns() {
         let at = (last, 65_535, node);
         repl(KEY, at, Some(value))
     });
-    let winner: Vec<u8> = frames.flatten().collect();
-    let two = [&b"1"[..], b"2"].map(|end| [&[b'v'; 511], end].concat());
-    let two = two.map(|value| repl(KEY, (last, 65_535, 255), Some(&value)));
-    let others = repl(b"other", (0, 0, 0), None).repeat(998);
-    for list in [winner, [others, two.concat()].concat()] {
-        let run = asked(&list, &["comp/scale-3"]);
-        let lines = run.lines().into_iter();
-        let table = lines.skip_while(|line| !line.starts_with("delivery  "));
-        let widest = table.map(str::len).max().unwrap();
-        assert!((119..=120).contains(&widest), "{}", run.out);
-    }
+    let others = repl(b"other", (0, 0, 0), None).repeat(995);
+    let list: Vec<u8> = others.into_iter().chain(frames.flatten()).collect();
+    let run = asked(&list, &["comp/scale-3"]);
+    let lines = run.lines().into_iter();
+    let table = lines.skip_while(|line| !line.starts_with("delivery  "));
+    let widest = table.map(str::len).max().unwrap();
+    assert_eq!(widest, 120, "{}", run.out);
 }
 
 /// What a module wrote itself is not in the list, and the report says so.
@@ -113,7 +110,7 @@ fn the_report_is_limited_to_the_list() {
     assert!(lines[1].starts_with("\"+110\", stamped "));
     let said = spaced(&run.out);
     assert!(said.contains("- The module's own PUT and DEL (what was set or deleted on the module"));
-    assert!(said.contains("are not in the list. If one of them has a greater stamp, the module"));
+    assert!(said.contains("are not in the list. If one of them has a greater stamp, or the same"));
 }
 
 /// The words of a text with one space between them.
@@ -144,30 +141,42 @@ fn a_key_in_hexadecimal() {
     }
 }
 
-/// Two deliveries of the key that have one stamp, and values that begin alike.
-fn conflicting() -> Vec<Vec<u8>> {
-    let mut frames = frames();
-    let values = [
-        [&[b'v'; 40][..], b"1"].concat(),
-        [&[b'v'; 40][..], b"2"].concat(),
-    ];
-    for value in &values {
-        frames.push(repl(KEY, (MORNING, 0, 1), Some(value)));
-    }
-    frames
+/// A stamp above all others of the key.
+const REUSED: (u64, u16, u8) = (MORNING + 3 * HOUR, 0, 1);
+
+/// Two deliveries with that stamp, and values that begin alike.
+fn reused() -> Vec<Vec<u8>> {
+    let values = [&b"-8C +97, 20C 0, 40C -10"[..], b"-8C +97, 20C 0, 40C -12"];
+    let two = values.map(|value| repl(KEY, REUSED, Some(value)));
+    frames().into_iter().chain(two).collect()
 }
 
 #[test]
-fn two_that_have_one_stamp_and_differ() {
-    let mut frames = conflicting();
-    asked(&frames.concat(), &["comp/scale-3"]).says(1, "audit-conflict.txt");
-    let others = asked(&frames.concat(), &["test-load"]);
-    assert_eq!(others.status, 0);
-    frames.pop();
-    frames.push(repl(KEY, (MORNING, 0, 1), None));
+fn a_reused_stamp_is_pointed_out() {
+    let mut frames = reused();
+    asked(&frames.concat(), &["comp/scale-3"]).says(0, "audit-reused-stamp.txt");
+    let html = page("audit-reused.html", &frames.concat(), &["comp/scale-3"]);
+    assert!(html.contains("<h2>The reused stamp</h2>\n<p>A delivery with the outcome \"same "));
+    let (in_answer, note) = (
+        "\nThis stamp was given to more than one entry, ",
+        "\nThe reused stamp:\n",
+    );
+    let points_out = |run: &Run| {
+        let said = run.out.contains(in_answer);
+        assert_eq!((run.status, run.out.contains(note)), (0, said), "{run:?}");
+        said
+    };
+    assert!(!points_out(&asked(&frames.concat(), &["test-load"])));
+    frames.push(repl(KEY, REUSED, None));
+    frames.push(repl(KEY, REUSED, Some(b"-8C +97")));
     let deleted = asked(&frames.concat(), &["comp/scale-3"]);
-    assert!(deleted.lines()[1].contains("and delivery 11 (deleted) have the same stamp"));
-    assert_eq!(deleted.out.matches("  not judged\n").count(), 6);
+    assert!(points_out(&deleted) && deleted.lines()[1].starts_with("deleted, stamped "));
+    let lower = "  same stamp, lower contents\n";
+    assert_eq!(deleted.out.matches(lower).count(), 3);
+    // Below a later stamp nobody compares them.
+    frames.push(repl(KEY, (REUSED.0, 1, 1), Some(b"")));
+    let later = asked(&frames.concat(), &["comp/scale-3"]);
+    assert!(!points_out(&later) && !later.out.contains(lower));
 }
 
 /// What follows two right deliveries, and what it is.
@@ -300,8 +309,8 @@ fn the_page() {
 #[test]
 fn the_page_and_the_text_say_the_same() {
     let cut = &list()[..100];
-    let conflict = conflicting().concat();
-    let lists = [&list()[..], &[], cut, &conflict];
+    let reused = reused().concat();
+    let lists = [&list()[..], &[], cut, &reused];
     for (number, list) in lists.into_iter().enumerate() {
         for key in ["comp/scale-3", "test-load", "<none> & \"such\""] {
             let words = [key, "--full"];
@@ -323,7 +332,7 @@ fn the_page_and_the_text_say_the_same() {
 
 /// A list and a key for each answer, and what its page names: the contract, then
 /// the theorems.
-fn answers() -> [(Vec<u8>, &'static str, &'static [&'static str]); 4] {
+fn answers() -> [(Vec<u8>, &'static str, &'static [&'static str]); 3] {
     [
         (
             list(),
@@ -334,11 +343,6 @@ fn answers() -> [(Vec<u8>, &'static str, &'static [&'static str]); 4] {
             list(),
             "comp/scale-",
             &["explain", "none-means", "winner-is-held"],
-        ),
-        (
-            conflicting().concat(),
-            "comp/scale-3",
-            &["explain", "conflict-exactly"],
         ),
         (
             list()[..100].to_vec(),
@@ -392,35 +396,58 @@ fn bad_usage_is_told() {
     assert!(run.err.contains("page.html"), "{run:?}");
 }
 
+/// A list with few stamps and contents, and a store that was offered the
+/// deliveries of "k".
+fn any_list(rng: &mut Rng) -> (Vec<u8>, Vec<u8>) {
+    let mut image = vec![0; image_length(1)];
+    create(&mut image, 1).unwrap();
+    let mut list = Vec::new();
+    for _ in 0..1 + rng.below(30) {
+        let (phys, logical, node) = (rng.below(3), rng.below(2), rng.below(2));
+        let at = stamp(phys, logical as u16, node as u8);
+        let end = ["", "0", "00", "1"][rng.index(4)];
+        let value = format!("{phys}.{logical}.{node}.{end}");
+        let value = (!rng.one_in(5)).then_some(value.as_bytes());
+        let key = if rng.one_in(3) { b"l" } else { b"k" };
+        list.extend(framed(&repl_message(key, at, value)));
+        if key == b"k" {
+            let flag = if value.is_some() { ACTIVE } else { TOMBSTONE };
+            offer(&mut image, key, value.unwrap_or_default(), flag, at).unwrap();
+        }
+    }
+    (list, image)
+}
+
+/// What the answer on "k" says of the entry that a store holds.
+fn said_of(held: Option<&Entry>) -> String {
+    let Some(entry) = held else {
+        return "The list has no delivery of \"k\".\n".to_string();
+    };
+    let content = match entry.flag {
+        TOMBSTONE => "deleted".to_string(),
+        _ => format!("{:?}", String::from_utf8_lossy(&entry.value)),
+    };
+    let (phys, node) = (entry.stamp.phys, entry.stamp.node);
+    let stamped = format!("stamped 1970-01-01 00:00:00.00{phys} UTC by module {node}.");
+    format!(" is in force for \"k\":\n{content}, {stamped}\n")
+}
+
 /// A store that was offered the key's deliveries holds what the tool names.
 #[test]
 fn the_one_in_force_is_the_one_that_the_reference_holds() {
     let mut rng = Rng::new(23);
+    let mut reused = 0;
     for _ in 0..40 {
-        let mut image = vec![0; image_length(1)];
-        create(&mut image, 1).unwrap();
-        let mut list = Vec::new();
-        for _ in 0..1 + rng.below(30) {
-            let (phys, logical, node) = (rng.below(4), rng.below(3), rng.below(3));
-            let at = stamp(phys, logical as u16, node as u8);
-            // One stamp, one value.
-            let content = format!("{phys}.{logical}.{node}");
-            let key = if rng.one_in(3) { b"l" } else { b"k" };
-            list.extend(framed(&repl_message(key, at, Some(content.as_bytes()))));
-            if key == b"k" {
-                offer(&mut image, key, content.as_bytes(), 0, at).unwrap();
-            }
-        }
-        let held = String::from_utf8(value(&image, b"k").to_vec()).unwrap();
-        let run = asked(&list, &["k"]);
-        let named = format!(" is in force for \"k\":\n\"{held}\", stamped ");
-        let never = run.lines()[0] == "The list has no delivery of \"k\".";
-        assert!(
-            run.out.contains(&named) || never && held.is_empty(),
-            "{run:?}"
-        );
-        assert_eq!(run.status, i32::from(never));
+        let (list, image) = any_list(&mut rng);
+        let (run, held) = (asked(&list, &["k"]), entries(&image).unwrap());
+        assert!(run.out.contains(&said_of(held.first())), "{run:?}");
+        assert_eq!(run.status, i32::from(held.is_empty()));
+        reused += run
+            .out
+            .matches("\nThis stamp was given to more than one entry, ")
+            .count();
     }
+    assert!(reused > 10, "{reused}");
 }
 
 /// Whatever the bytes are, there is an answer, and no control code is printed.

@@ -1,6 +1,7 @@
 /* Modules of a site: settings are written on module 1, the owners of one are named, the entries
  * are listed and sent to module 2, its store is merged into a spare one, and of what was sent to it
- * a report says which delivery of a key is in force. C99, and C++11. */
+ * a report says which delivery of a key is in force. Then module 1 gives a stamp twice, and modules
+ * 2 and 3 still come to hold the same. C99, and C++11. */
 #include <stdio.h>
 #include <string.h>
 
@@ -20,7 +21,8 @@ typedef struct {
     size_t list_len;
 } module;
 
-static module one, two;
+static module one, two, three;
+static module card; /* a copy of module 1 */
 static uint8_t spare[SP_STORE_BYTES(SLOTS)];
 
 static const uint8_t *bytes(const char *text) { return (const uint8_t *)text; }
@@ -217,56 +219,54 @@ static const char *reason_text(uint8_t reason) {
     case SP_LOWER_NODE: return "same time and count, lower node id";
     case SP_SAME_ENTRY: return "the same entry again";
     case SP_OTHER_KEY: return "another key";
+    case SP_LOWER_CONTENT: return "same stamp, lower contents";
     default: return "unknown";
     }
-}
-
-/* Prints what sp_explain answered; 1 if it named a winner, else 0. */
-static int print_explained(sp_explained r) {
-    if (SP_EXPLAINED_REFUSAL(r) == SP_CONFLICT) {
-        printf("deliveries %u and %u have one stamp and differ\n", SP_EXPLAINED_EARLIER(r),
-               SP_EXPLAINED_LATER(r));
-    } else if (SP_EXPLAINED_IS_REFUSED(r)) {
-        printf("refused with %s\n", sp_refusal_name(SP_EXPLAINED_REFUSAL(r)));
-    } else if (SP_EXPLAINED_WINNER(r) == SP_NO_DELIVERY) {
-        printf("never delivered\n");
-    } else {
-        printf("delivery %u is in force\n", SP_EXPLAINED_WINNER(r));
-        return 1;
-    }
-    return 0;
 }
 
 /* Which delivery of a key in a module's list is in force, and why not the others? */
 static void print_report(const module *m, const char *key) {
     static uint8_t reasons[SP_DELIVERIES_MAX];
     sp_result count = sp_deliveries(m->list, m->list_len);
-    sp_explained r = sp_explain(m->list, m->list_len, bytes(key), strlen(key), reasons,
-                                sizeof reasons);
+    sp_result r = sp_explain(m->list, m->list_len, bytes(key), strlen(key), reasons,
+                             sizeof reasons);
     uint32_t i;
-    printf("module %u, report on %s: ", m->id, key);
-    if (!print_explained(r)) {
+    if (refused("sp_explain", r)) {
         return;
     }
+    printf("module %u, report on %s: ", m->id, key);
+    if (SP_ANSWER(r) == SP_NO_DELIVERY) {
+        printf("never delivered\n");
+        return;
+    }
+    printf("delivery %u is in force\n", SP_ANSWER(r));
     for (i = 0; i < SP_ANSWER(count); i++) {
         printf("  delivery %u: %s\n", i, reason_text(reasons[i]));
     }
 }
 
-/* On what module 2 was sent, and again after module 1 has given a stamp twice. */
-static void print_reports(void) {
-    print_report(&two, "comp/scale-3");
-    print_report(&two, "test-load");
-    print_report(&two, "comp/scale-9");
-    create(&one, 1); /* its clock starts anew */
-    put(&one, MORNING, "comp/scale-3", "+130 ppm");
+/* ---- A stamp that is given twice */
+
+/* Module 1 is restored from its card and its time set back, so its clock gives another value a
+ * stamp that it gave before. The two values reach modules 2 and 3 in different orders, and both
+ * modules hold the one that is greater by its bytes. */
+static void give_a_stamp_twice(void) {
+    printf("module 1 is restored from its card\n");
+    one = card;
+    put(&one, MORNING + 8, "comp/scale-3", "+130 ppm");
     send_all(&one, &two, MORNING + 10);
+    send_all(&one, &three, MORNING + 10);
+    send_all(&two, &three, MORNING + 11);
+    get(&two, MORNING + 12, "comp/scale-3");
+    get(&three, MORNING + 12, "comp/scale-3");
     print_report(&two, "comp/scale-3");
+    print_report(&three, "comp/scale-3");
 }
 
 int main(void) {
     create(&one, 1);
     create(&two, 2);
+    create(&three, 3);
 
     put(&one, MORNING, "comp/scale-3", "+120 ppm");
     put(&one, MORNING + 1, "test-load", "50 kg");
@@ -274,6 +274,7 @@ int main(void) {
     del(&one, MORNING + 3, "test-load");
     print_owners(MORNING + 4, "comp/scale-3");
 
+    card = one;
     send_all(&one, &two, MORNING + 5);
     get(&two, MORNING + 6, "comp/scale-3");
     get(&two, MORNING + 7, "test-load");
@@ -292,6 +293,10 @@ int main(void) {
 
     spare[100] ^= 1; /* as worn flash may do */
     print_lookup("comp/scale-3");
-    print_reports();
-    return 0;
+    print_report(&two, "comp/scale-3");
+    print_report(&two, "test-load");
+    print_report(&two, "comp/scale-9");
+
+    give_a_stamp_twice();
+    return memcmp(two.store, three.store, sizeof two.store) != 0;
 }

@@ -18,7 +18,6 @@ pub const SP_PEER_KNOWN: u16 = 14;
 pub const SP_SELF: u16 = 15;
 pub const SP_BAD_RING: u16 = 16;
 pub const SP_BAD_ARGUMENT: u16 = 17;
-pub const SP_CONFLICT: u16 = 30;
 
 pub const SP_KEY_MAX: usize = 64;
 pub const SP_VALUE_MAX: usize = 512;
@@ -98,6 +97,7 @@ pub const SP_LOWER_COUNT: u8 = 2;
 pub const SP_LOWER_NODE: u8 = 3;
 pub const SP_SAME_ENTRY: u8 = 4;
 pub const SP_OTHER_KEY: u8 = 5;
+pub const SP_LOWER_CONTENT: u8 = 6;
 
 extern "C" {
     pub fn sp_crc32c(bytes: *const u8, bytes_len: usize) -> u32;
@@ -267,5 +267,5 @@ extern "C" {
         key_len: usize,
         reasons: *mut u8,
         reasons_len: usize,
-    ) -> u64;
+    ) -> u32;
 }

@@ -33,9 +33,28 @@ module 2, report on test-load: delivery 1 is in force
   delivery 2: another key
   delivery 3: the same entry again
 module 2, report on comp/scale-9: never delivered
+module 1 is restored from its card
 module 1, PUT comp/scale-3 = +130 ppm: OK
-module 2, REPL comp/scale-3 = +130 ppm at (1736836800000, 0, 1): OK
-module 2, report on comp/scale-3: deliveries 0 and 4 have one stamp and differ
+module 2, REPL comp/scale-3 = +130 ppm at (1736836800008, 0, 1): OK
+module 2, REPL test-load deleted at (1736836800003, 0, 1): OK
+module 3, REPL comp/scale-3 = +130 ppm at (1736836800008, 0, 1): OK
+module 3, REPL test-load deleted at (1736836800003, 0, 1): OK
+module 3, REPL comp/scale-3 = +95 ppm at (1736836800008, 0, 1): OK
+module 3, REPL test-load deleted at (1736836800003, 0, 1): OK
+module 2, GET comp/scale-3: VALUE +95 ppm
+module 3, GET comp/scale-3: VALUE +95 ppm
+module 2, report on comp/scale-3: delivery 2 is in force
+  delivery 0: earlier time
+  delivery 1: another key
+  delivery 2: won
+  delivery 3: another key
+  delivery 4: same stamp, lower contents
+  delivery 5: another key
+module 3, report on comp/scale-3: delivery 2 is in force
+  delivery 0: same stamp, lower contents
+  delivery 1: another key
+  delivery 2: won
+  delivery 3: another key
 ";
 
 #[test]

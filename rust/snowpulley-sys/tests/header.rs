@@ -55,7 +55,7 @@ fn rust_type(c: &str) -> String {
         "uint8_t" => "u8",
         "uint16_t" => "u16",
         "uint32_t" | "sp_result" => "u32",
-        "uint64_t" | "sp_explained" => "u64",
+        "uint64_t" => "u64",
         "size_t" => "usize",
         other => panic!("a type the test does not know: {other}"),
     };
@@ -238,7 +238,7 @@ fn same_numbers() {
 }
 
 /// The header's name, and a crate's.
-const IN_THE_CODE: [(&str, &str, &str); 33] = [
+const IN_THE_CODE: [(&str, &str, &str); 34] = [
     ("SP_KEY_MAX", "entry", "MAX_KEY"),
     ("SP_VALUE_MAX", "entry", "MAX_VALUE"),
     ("SP_TIME_END", "entry", "TIME_LIMIT"),
@@ -272,6 +272,7 @@ const IN_THE_CODE: [(&str, &str, &str); 33] = [
     ("SP_LOWER_NODE", "explain", "LOWER_NODE"),
     ("SP_SAME_ENTRY", "explain", "SAME_ENTRY"),
     ("SP_OTHER_KEY", "explain", "OTHER_KEY"),
+    ("SP_LOWER_CONTENT", "explain", "LOWER_CONTENT"),
 ];
 
 #[test]
@@ -315,8 +316,8 @@ fn differences_are_seen() {
     for text in wrong {
         assert_ne!(c_functions(text), right, "{text}");
     }
-    let typed = c_functions("typedef uint64_t sp_explained;\nsp_explained sp_a(uint8_t h);");
-    assert_eq!(typed, c_functions("uint64_t sp_a(uint8_t h);"));
+    let typed = c_functions("typedef uint32_t sp_result;\nsp_result sp_a(uint8_t h);");
+    assert_eq!(typed, c_functions("uint32_t sp_a(uint8_t h);"));
     let rust = "extern \"C\" { pub fn sp_a(key: *const u8, key_len: usize) -> u32; }";
     assert_eq!(rust_functions(rust), right);
     let rattle = "#[no_mangle]\npub extern \"C\" fn sp_a(key: &[u8]) -> u32\n    ensures {}";

@@ -16,26 +16,14 @@ pub fn deliveries(list: &[u8]) -> Result<usize, Refusal> {
     split(raw::deliveries(list)).map(usize::from)
 }
 
-/// What the library says of a key.
-#[derive(Clone, Copy, Debug, PartialEq, Eq)]
-pub enum Explained {
-    /// The place of the delivery that is in force.
-    Winner(usize),
-    /// The key was never delivered.
-    NoDelivery,
-    /// The places of two deliveries of the key that have equal stamps and
-    /// differ.
-    Conflict { earlier: usize, later: usize },
-    /// Any refusal but `Refusal::Conflict`.
-    Refused(Refusal),
-}
-
-/// Names the winner among the deliveries of a key. The front of `reasons` gets
-/// the byte of a `Reason` for each delivery of the list; a refusal and a
-/// conflict leave it. `DELIVERIES_MAX` bytes are always enough.
+/// The place of the winner among the deliveries of a key; none if the key was
+/// never delivered. The winner is the entry that a fresh store holds after the
+/// key's deliveries were offered to it in order. The front of `reasons` gets
+/// the byte of a `Reason` for each delivery of the list; a refusal leaves it.
+/// `DELIVERIES_MAX` bytes are always enough.
 ///
 /// ```
-/// use snowpulley::{explain, Content, Entry, Explained, Message, Reason, Refusal, Stamp};
+/// use snowpulley::{explain, Content, Entry, Message, Reason, Refusal, Stamp};
 ///
 /// let key = b"comp/scale-3";
 /// let frame = |value, phys| {
@@ -44,37 +32,22 @@ pub enum Explained {
 /// };
 /// let list = [frame(b"+120 ppm", 1)?, frame(b"+95 ppm", 2)?].concat();
 /// let mut reasons = [0; 2];
-/// assert_eq!(explain(&list, key, &mut reasons), Explained::Winner(1));
+/// assert_eq!(explain(&list, key, &mut reasons), Ok(Some(1)));
 /// assert_eq!(reasons.map(Reason::of), [Some(Reason::EarlierTime), Some(Reason::Won)]);
 /// # Ok::<(), Refusal>(())
 /// ```
-pub fn explain(list: &[u8], key: &[u8], reasons: &mut [u8]) -> Explained {
-    let word = raw::explain(list, key, reasons);
-    taken_apart(word).unwrap_or_else(|| panic!("an answer of the header, not {word:#x}"))
+pub fn explain(list: &[u8], key: &[u8], reasons: &mut [u8]) -> Result<Option<usize>, Refusal> {
+    split(raw::explain(list, key, reasons)).map(winner)
 }
 
 const NO_DELIVERY: usize = header::SP_NO_DELIVERY as usize;
 
-/// What a word of `raw::explain` says; None for one that the header does not
-/// allow.
-fn taken_apart(word: u64) -> Option<Explained> {
-    let refusal = match u16::try_from(word >> 32).ok()? {
-        0 => None,
-        number => Some(Refusal::from_number(number)?),
-    };
-    let places = [word, word >> 16].map(|bits| usize::from(bits as u16));
-    match (refusal, places) {
-        (None, [NO_DELIVERY, 0]) => Some(Explained::NoDelivery),
-        (None, [place, 0]) if place < DELIVERIES_MAX => Some(Explained::Winner(place)),
-        (Some(Refusal::Conflict), [earlier, later])
-            if earlier < later && later < DELIVERIES_MAX =>
-        {
-            Some(Explained::Conflict { earlier, later })
-        }
-        (Some(why @ (Refusal::BadArgument | Refusal::BadKey | Refusal::NoRoom)), [0, 0]) => {
-            Some(Explained::Refused(why))
-        }
-        _ => None,
+/// What an answer of `raw::explain` says.
+fn winner(answer: u16) -> Option<usize> {
+    match answer.into() {
+        NO_DELIVERY => None,
+        place if place < DELIVERIES_MAX => Some(place),
+        other => panic!("the header has no place {other}"),
     }
 }
 
@@ -86,19 +59,23 @@ pub enum Reason {
     EarlierTime = header::SP_EARLIER_TIME,
     LowerCount = header::SP_LOWER_COUNT,
     LowerNode = header::SP_LOWER_NODE,
+    /// The winner's own entry, again.
     SameEntry = header::SP_SAME_ENTRY,
     OtherKey = header::SP_OTHER_KEY,
+    /// The winner's stamp, but lower contents: a stamp was given twice.
+    LowerContent = header::SP_LOWER_CONTENT,
 }
 
 impl Reason {
     /// Every reason, in the order of the bytes.
-    pub const ALL: [Reason; 6] = [
+    pub const ALL: [Reason; 7] = [
         Reason::Won,
         Reason::EarlierTime,
         Reason::LowerCount,
         Reason::LowerNode,
         Reason::SameEntry,
         Reason::OtherKey,
+        Reason::LowerContent,
     ];
 
     /// None for a byte that no reason has.
@@ -115,6 +92,7 @@ impl Reason {
             Reason::LowerNode => "same time and count, lower node id",
             Reason::SameEntry => "the same entry again",
             Reason::OtherKey => "another key",
+            Reason::LowerContent => "same stamp, lower contents",
         }
     }
 }
@@ -193,49 +171,22 @@ fn first(bytes: &[u8]) -> Result<(Entry<'_>, usize), Fault<'_>> {
 
 #[cfg(test)]
 mod tests {
-    use super::{taken_apart, Explained};
-    use crate::Refusal;
+    use super::winner;
+    use std::panic::catch_unwind;
 
     #[test]
-    fn answers_are_taken_apart() {
-        let conflict = |earlier, later| Explained::Conflict { earlier, later };
-        let right = [
-            (0, Explained::Winner(0)),
-            (999, Explained::Winner(999)),
-            (65_535, Explained::NoDelivery),
-            (17 << 32, Explained::Refused(Refusal::BadArgument)),
-            (1 << 32, Explained::Refused(Refusal::BadKey)),
-            (4 << 32, Explained::Refused(Refusal::NoRoom)),
-            (30 << 32 | 1 << 16, conflict(0, 1)),
-            (30 << 32 | 999 << 16 | 998, conflict(998, 999)),
-        ];
-        for (word, said) in right {
-            assert_eq!(taken_apart(word), Some(said), "{word:#x}");
+    fn answers_are_places_or_none() {
+        for place in [0, 1, 998, 999] {
+            assert_eq!(winner(place), Some(place.into()));
         }
+        assert_eq!(winner(65_535), None);
     }
 
-    /// Places out of range, bits that nothing takes, refusals of other calls.
+    /// No list has so many deliveries.
     #[test]
-    fn other_words_are_none() {
-        let wrong = [
-            1000,
-            65_534,
-            1 << 16,
-            1 << 16 | 65_535,
-            30 << 32,
-            30 << 32 | 5 << 16 | 5,
-            30 << 32 | 4 << 16 | 5,
-            30 << 32 | 1000 << 16 | 5,
-            17 << 32 | 1,
-            17 << 32 | 1 << 16,
-            4 << 32 | 65_535,
-            3 << 32,
-            18 << 32,
-            1 << 48,
-            1 << 63 | 17 << 32,
-        ];
-        for word in wrong {
-            assert_eq!(taken_apart(word), None, "{word:#x}");
+    fn other_answers_are_none_of_the_header() {
+        for other in [1000, 1001, 32_768, 65_534] {
+            assert!(catch_unwind(|| winner(other)).is_err(), "{other}");
         }
     }
 }

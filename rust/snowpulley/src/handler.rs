@@ -14,7 +14,9 @@ pub struct Answer {
     pub refusal: Option<Refusal>,
 }
 
-/// Answers one request frame.
+/// Answers one request frame. A PUT or DEL whose stamp is not above the held
+/// one is refused with `Overtaken`, whatever it writes; a REPL is offered as by
+/// `store::offer`.
 pub fn handle(
     store: &mut [u8],
     clock: &mut Clock,

@@ -2,9 +2,8 @@
 //!
 //! `raw` has every function of the header over plain slices. The other
 //! modules give them types: a clock, a peer table and the answers as Rust
-//! values, and a refusal as an error. `handler::handle` and `audit::explain`
-//! return a refusal as a part of their answer, since more can come with it: an
-//! ERR frame, or two places.
+//! values, and a refusal as an error. `handler::handle` returns a refusal as a
+//! part of its answer, since an ERR frame can come with it.
 
 pub mod audit;
 pub mod checksum;
@@ -20,7 +19,7 @@ pub mod refusal;
 pub mod ring;
 pub mod store;
 
-pub use audit::{deliveries, explain, Explained, Reason};
+pub use audit::{deliveries, explain, Reason};
 pub use clock::Clock;
 pub use entry::{Content, Entry, Stamp};
 pub use frame::Message;

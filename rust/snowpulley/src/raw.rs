@@ -261,7 +261,7 @@ pub fn deliveries(list: &[u8]) -> u32 {
     unsafe { ffi::sp_deliveries(list.as_ptr(), list.len()) }
 }
 
-pub fn explain(list: &[u8], key: &[u8], reasons: &mut [u8]) -> u64 {
+pub fn explain(list: &[u8], key: &[u8], reasons: &mut [u8]) -> u32 {
     unsafe {
         ffi::sp_explain(
             list.as_ptr(),

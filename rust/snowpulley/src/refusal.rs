@@ -74,8 +74,6 @@ refusals! {
         "a count, flag, state or ERR number out of range, an id listed twice, a tombstone with a \
          value, words that are no clock or no sound peer table, or a list of deliveries that is \
          not readable";
-    Conflict = SP_CONFLICT:
-        "two deliveries of the key that differ and have equal stamps";
 }
 
 impl Refusal {

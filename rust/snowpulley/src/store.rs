@@ -21,8 +21,11 @@ pub enum Found<'a> {
 /// What became of an offered entry.
 #[derive(Clone, Copy, Debug, PartialEq, Eq)]
 pub enum Offered {
+    /// Its key was not held.
     Stored,
+    /// The held entry was below it.
     Replaced,
+    /// The held entry was not below it: the store is as before.
     Kept,
 }
 
@@ -79,7 +82,10 @@ pub fn entries(store: &[u8]) -> Result<Vec<Entry<'_>>, Refusal> {
     (0..).map_while(|i| entry(store, i).transpose()).collect()
 }
 
-/// Offers one entry.
+/// Offers one entry. Of it and the held one of its key the one that is above
+/// stays: the one with the greater stamp; at equal stamps a tombstone is above
+/// every value, and of two values the one with the greater byte where they
+/// first differ, or the longer one if it begins with the other.
 pub fn offer(store: &mut [u8], entry: &Entry<'_>) -> Result<Offered, Refusal> {
     let Entry {
         key,
@@ -103,7 +109,8 @@ pub fn offer(store: &mut [u8], entry: &Entry<'_>) -> Result<Offered, Refusal> {
     }
 }
 
-/// Offers each of the giver's entries to the receiver, all or none.
+/// Offers each of the giver's entries to the receiver as `offer` does, all or
+/// none.
 pub fn merge(receiver: &mut [u8], giver: &[u8]) -> Result<(), Refusal> {
     split(raw::store_merge(receiver, giver))?;
     Ok(())

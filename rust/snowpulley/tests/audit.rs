@@ -1,7 +1,7 @@
 //! The report on a list of deliveries.
 
 use snowpulley::audit::{
-    deliveries, explain, read, Delivery, Explained, Fault, Reason, Unreadable, DELIVERIES_MAX,
+    deliveries, explain, read, Delivery, Fault, Reason, Unreadable, DELIVERIES_MAX,
 };
 use snowpulley::checksum::crc32c;
 use snowpulley::{Content, Entry, Message, Refusal, Stamp};
@@ -40,13 +40,16 @@ fn entries() -> Vec<Entry<'static>> {
         entry(b"zero", b"0", (9, 9, 9)),
         entry(KEY, b"+90", (7, 7, 9)),
         entry(KEY, b"+95", (7, 8, 2)),
-        entry(KEY, b"+94", (7, 8, 1)),
+        entry(KEY, b"+96", (7, 8, 1)),
         entry(KEY, b"+95", (7, 8, 2)),
+        entry(KEY, b"+94", (7, 8, 2)),
     ]
 }
 
+type Told = Result<Option<usize>, Refusal>;
+
 /// What is answered, and the bytes of a longer output.
-fn explained<const N: usize>(list: &[u8], key: &[u8]) -> (Explained, [u8; N]) {
+fn explained<const N: usize>(list: &[u8], key: &[u8]) -> (Told, [u8; N]) {
     let mut reasons = [77; N];
     let answer = explain(list, key, &mut reasons);
     (answer, reasons)
@@ -55,10 +58,10 @@ fn explained<const N: usize>(list: &[u8], key: &[u8]) -> (Explained, [u8; N]) {
 #[test]
 fn the_winner_and_why_each_other_one_lost() {
     let list = list(&entries());
-    assert_eq!(deliveries(&list), Ok(6));
+    assert_eq!(deliveries(&list), Ok(7));
     let told = explained(&list, KEY);
-    assert_eq!(told, (Explained::Winner(3), [1, 5, 2, 0, 3, 4, 77]));
-    let reasons = [1, 5, 2, 0, 3, 4].map(|byte| Reason::of(byte).unwrap());
+    assert_eq!(told, (Ok(Some(3)), [1, 5, 2, 0, 3, 4, 6, 77]));
+    let reasons = [1, 5, 2, 0, 3, 4, 6].map(|byte| Reason::of(byte).unwrap());
     let expected = [
         Reason::EarlierTime,
         Reason::OtherKey,
@@ -66,54 +69,67 @@ fn the_winner_and_why_each_other_one_lost() {
         Reason::Won,
         Reason::LowerNode,
         Reason::SameEntry,
+        Reason::LowerContent,
     ];
     assert_eq!(reasons, expected);
     let told = explained(&list, b"zero");
-    assert_eq!(told, (Explained::Winner(1), [5, 0, 5, 5, 5, 5, 77]));
+    assert_eq!(told, (Ok(Some(1)), [5, 0, 5, 5, 5, 5, 5, 77]));
 }
 
 #[test]
 fn a_key_that_was_never_delivered() {
     let told = explained(&list(&entries()), b"comp/scale-");
-    assert_eq!(told, (Explained::NoDelivery, [5, 5, 5, 5, 5, 5, 77]));
-    assert_eq!(explained(&[], KEY), (Explained::NoDelivery, []));
+    assert_eq!(told, (Ok(None), [5, 5, 5, 5, 5, 5, 5, 77]));
+    assert_eq!(explained(&[], KEY), (Ok(None), []));
     assert_eq!(deliveries(&[]), Ok(0));
 }
 
-/// Any pair of the key counts, not only one with the winner.
+/// Each content is above those before it, in whatever order the two came.
 #[test]
-fn deliveries_that_have_one_stamp_and_differ() {
-    let conflict = |earlier, later| (Explained::Conflict { earlier, later }, [77; 9]);
-    let mut entries = entries();
-    entries.push(entry(KEY, b"+121", (6, 9, 9)));
-    assert_eq!(explained(&list(&entries), KEY), conflict(0, 6));
-    entries.push(deleted(KEY, (7, 8, 2)));
-    assert_eq!(explained(&list(&entries), KEY), conflict(0, 6));
-    entries.remove(6);
-    assert_eq!(explained(&list(&entries), KEY), conflict(3, 6));
-    let told = explained::<9>(&list(&entries), b"zero").0;
-    assert_eq!(told, Explained::Winner(1));
-    // An empty value is no deletion.
-    let empty = [entry(KEY, b"", (1, 1, 1)), deleted(KEY, (1, 1, 1))];
-    assert_eq!(explained(&list(&empty), KEY), conflict(0, 1));
+fn contents_decide_between_equal_stamps() {
+    let values: [&[u8]; 7] = [b"", b"\0", b"+1", b"+120", b"+95", b"+95\0", b"\xFF"];
+    let stamp = (7, 8, 2);
+    let mut entries = values.map(|value| entry(KEY, value, stamp)).to_vec();
+    entries.push(deleted(KEY, stamp));
+    let pairs = (1..entries.len()).flat_map(|high| (0..high).map(move |low| (low, high)));
+    for (low, high) in pairs {
+        let [lower, higher] = [low, high].map(|at| entries[at]);
+        let told = explained(&list(&[lower, higher]), KEY);
+        assert_eq!(told, (Ok(Some(1)), [6, 0, 77]), "{low} and {high}");
+        let told = explained(&list(&[higher, lower]), KEY);
+        assert_eq!(told, (Ok(Some(0)), [0, 6, 77]), "{high} and {low}");
+    }
+}
+
+/// A greater stamp wins over greater contents, and the winner is the first
+/// delivery of its entry.
+#[test]
+fn stamps_decide_before_contents() {
+    let (held, other) = (entry(KEY, b"+95", (7, 8, 2)), entry(KEY, b"+94", (7, 8, 2)));
+    let list = list(&[
+        deleted(KEY, (7, 8, 1)),
+        other,
+        entry(KEY, b"+99", (7, 7, 9)),
+        held,
+        held,
+        other,
+        deleted(KEY, (6, 9, 9)),
+    ]);
+    let told = explained(&list, KEY);
+    assert_eq!(told, (Ok(Some(3)), [3, 6, 2, 0, 4, 6, 1, 77]));
 }
 
 #[test]
 fn refusals_in_the_order_of_their_checks() {
-    let refused = |list: &[u8], key: &[u8]| match explained::<5>(list, key) {
-        (Explained::Refused(refusal), [77, 77, 77, 77, 77]) => refusal,
+    let refused = |list: &[u8], key: &[u8]| match explained::<6>(list, key) {
+        (Err(refusal), [77, 77, 77, 77, 77, 77]) => refusal,
         other => panic!("{other:?}"),
     };
-    let mut entries = entries();
-    let whole = list(&entries);
+    let whole = list(&entries());
     assert_eq!(refused(&whole[1..], b""), Refusal::BadArgument);
     assert_eq!(refused(&whole, b""), Refusal::BadKey);
     assert_eq!(refused(&whole, KEY), Refusal::NoRoom);
     assert_eq!(refused(&whole, b"never"), Refusal::NoRoom);
-    entries.push(deleted(KEY, (7, 8, 2)));
-    let (earlier, later) = (3, 6);
-    let told = explained::<5>(&list(&entries), KEY).0;
-    assert_eq!(told, Explained::Conflict { earlier, later });
 }
 
 #[test]
@@ -124,7 +140,7 @@ fn the_deliveries_of_a_list() {
     assert!(read.iter().map(|delivery| delivery.entry).eq(entries));
     // A frame has 25 bytes besides key and value.
     let places: Vec<usize> = read.iter().map(|delivery| delivery.at).collect();
-    assert_eq!(places, [0, 37, 63, 99, 135, 171]);
+    assert_eq!(places, [0, 37, 63, 99, 135, 171, 207]);
     assert_eq!(self::read(&[]), Ok(vec![]));
     let mut damaged = list.clone();
     damaged[70] ^= 1;
@@ -177,7 +193,7 @@ fn no_more_deliveries_than_a_list_may_have() {
     assert_eq!(deliveries(&most), Ok(DELIVERIES_MAX));
     assert_eq!(read(&most).map(|all| all.len()), Ok(DELIVERIES_MAX));
     let mut reasons = [77; DELIVERIES_MAX];
-    assert_eq!(explain(&most, &key, &mut reasons), Explained::Winner(0));
+    assert_eq!(explain(&most, &key, &mut reasons), Ok(Some(0)));
     assert!(reasons[0] == 0 && reasons[1..].iter().all(|byte| *byte == 4));
     let (place, at) = (DELIVERIES_MAX, most.len());
     let more = [most, frame].concat();
@@ -211,6 +227,6 @@ fn reasons_have_bytes_and_texts() {
         assert_eq!((reason as u8, Reason::of(byte)), (byte, Some(reason)));
         assert_eq!(reason.to_string(), reason.text());
     }
-    assert_eq!(Reason::of(6), None);
+    assert_eq!(Reason::of(7), None);
     assert_eq!(Reason::EarlierTime.text(), "earlier time");
 }

@@ -238,7 +238,9 @@ fn stores() {
     assert_eq!(store::fresh(101), Err(Refusal::BadArgument));
     let mut offer = |entry| store::offer(&mut one, &entry);
     assert_eq!(offer(active(b"a", b"x", 5)), Ok(Offered::Stored));
-    assert_eq!(offer(active(b"a", b"y", 5)), Ok(Offered::Kept));
+    assert_eq!(offer(active(b"a", b"x", 5)), Ok(Offered::Kept));
+    assert_eq!(offer(active(b"a", b"y", 5)), Ok(Offered::Replaced));
+    assert_eq!(offer(active(b"a", b"x", 5)), Ok(Offered::Kept));
     assert_eq!(offer(active(b"a", b"z", 6)), Ok(Offered::Replaced));
     assert_eq!(offer(tombstone(b"b", 6)), Ok(Offered::Stored));
     assert_eq!(offer(active(b"c", b"", 6)), Err(Refusal::StoreFull));
@@ -261,6 +263,33 @@ fn stores() {
     assert_eq!(store::entry(&two, 0), Err(Refusal::BadStore));
     assert_eq!(store::entries(&two), Err(Refusal::BadStore));
     assert_eq!(store::merge(&mut one, &two), Err(Refusal::BadStore));
+}
+
+/// Each content is above those before it. Whichever of a pair is held and
+/// whichever offered, in an entry or a store, the higher one is held then.
+#[test]
+fn contents_decide_between_equal_stamps() {
+    let values: [&[u8]; 7] = [b"", b"\0", b"+1", b"+120", b"+95", b"+95\0", b"\xFF"];
+    let mut entries = values.map(|value| active(b"k", value, 5)).to_vec();
+    entries.push(tombstone(b"k", 5));
+    let stores = entries.iter().map(|entry| {
+        let mut image = store::fresh(1).unwrap();
+        assert_eq!(store::offer(&mut image, entry), Ok(Offered::Stored));
+        image
+    });
+    let stores: Vec<Vec<u8>> = stores.collect();
+    let pairs = (0..64).map(|pair| (pair / 8, pair % 8));
+    for (held, offered) in pairs {
+        let expected = match held < offered {
+            true => Offered::Replaced,
+            false => Offered::Kept,
+        };
+        let highest = &stores[held.max(offered)];
+        let [mut one, mut two] = [(); 2].map(|()| stores[held].clone());
+        assert_eq!(store::offer(&mut one, &entries[offered]), Ok(expected));
+        assert_eq!(store::merge(&mut two, &stores[offered]), Ok(()));
+        assert_eq!([&one, &two], [highest; 2], "{held} and {offered}");
+    }
 }
 
 /// A number that is right in its lowest byte, or lowest two, is not cut to it.
@@ -341,4 +370,36 @@ fn requests() {
     assert_eq!(clock.words(), [10, 0, 1, 0]);
     let short = handle(&mut image, &mut clock, 11, &put(b"l"), &mut reply[..599]);
     assert_eq!((short.length, short.refusal), (0, Some(Refusal::NoRoom)));
+}
+
+/// A PUT and a DEL are refused then, whatever they write, and a replica goes by
+/// its contents.
+#[test]
+fn requests_with_the_held_stamp() {
+    let ask = |image: &mut [u8], message: Message<'_>| {
+        let words = [
+            STAMP.phys,
+            u64::from(STAMP.logical) - 1,
+            STAMP.node.into(),
+            0,
+        ];
+        let mut clock = Clock::from_words(words).unwrap();
+        let (frame, mut reply) = (message.frame().unwrap(), [0; frame::FRAME_MAX]);
+        let answer = handle(image, &mut clock, STAMP.phys, &frame, &mut reply);
+        answer.refusal
+    };
+    let (key, held) = (b"k", b"m");
+    for value in [b"l", b"m", b"n"] {
+        let mut image = store::fresh(1).unwrap();
+        store::offer(&mut image, &active(key, held, STAMP.phys)).unwrap();
+        let before = image.clone();
+        for local in [Message::Put { key, value }, Message::Del { key }] {
+            let refusal = ask(&mut image, local);
+            assert_eq!((refusal, &image), (Some(Refusal::Overtaken), &before));
+        }
+        let replica = Message::Repl(active(key, value, STAMP.phys));
+        assert_eq!(ask(&mut image, replica), None);
+        let higher = value.max(held);
+        assert_eq!(store::lookup(&image, key), Ok(Found::Value(higher)));
+    }
 }

@@ -2,7 +2,7 @@ use borrow.Author.Needs.{needs}
 use native.Mathlib.Omega.{arith}
 use mathlib.Core.Path.{ap, _∙_}
 use Rattle.capi_audit.specs.Audit.{explainedWord}
-use Rattle.capi_audit.proofs.Places.{answer-small}
+use Rattle.capi_audit.proofs.Places.{explained-small}
 use Rattle.capi_audit.proofs.sp_explain.Statement.{statement}
 use Rattle.capi_audit.proofs.sp_explain.Tie as tie
 
@@ -13,7 +13,7 @@ explained-requires : tie.Need-explained-requires
 explained-requires c κs =
     let x = c .before .before in
     let a = x .before .before .before .before .before .args in
-    rw (x .explain .ensures .0) (answer-small (a .list .now) (a .key .now) (a .reasons .now))
+    rw (x .explain .ensures .0) (explained-small (a .list .now) (a .key .now) (a .reasons .now))
 
 same-length : tie.Need-same-length
 same-length c = search needs

@@ -1,16 +1,13 @@
 use borrow.Author.Needs.{needs}
 use native.Mathlib.Omega.{arith}
-use mathlib.Core.Path.{_≡_, sym, ap, _∙_}
-use mathlib.Core.Option.{none}
+use mathlib.Core.Path.{_≡_, sym, _∙_}
 use Prim.Native.Nat.{_≤_}
 use mathlib.Core.Bool.{false}
 use lib.ListN.{length}
 use borrow.Author.Tests.{not-true, not-false}
 use Rattle.entry.specs.Key.{badKey}
-use Rattle.explain.specs.Conflict.{firstConflict}
 use Rattle.explain.specs.Walk.{entriesIn, Readable}
-use Rattle.explain.specs.Marks.{pairOf}
-use Rattle.explain.proofs.Answering.{count-refused, count-readable, says-unreadable, says-bad-key, says-conflict, says-no-room, says-won, says-none}
+use Rattle.explain.proofs.Answering.{count-refused, count-readable, says-unreadable, says-bad-key, says-no-room, says-won, says-none}
 use Rattle.explain.proofs.explain.Statement.{statement}
 use Rattle.explain.proofs.explain.Tie as tie
 
@@ -50,73 +47,50 @@ returns-2 c =
     says-bad-key (a .deliveries .now) (a .key .now) (a .reasons .now) (listed k .0)
     (not-false _ (sym (c .before .is-acceptable-key .ensures) ∙ not-true _ (c .if1 .taken)))
 
-find-conflict-requires : tie.Need-find-conflict-requires
-find-conflict-requires c κs = listed (c .before .before)
-
-enum-known-found : tie.Need-enum-known-found
-enum-known-found c = search needs
+-- there is room
+roomy : (c : tie.Else2) → let a = start (c .before .before .before) .args in length (entriesIn (a .deliveries .now)) ≤ length (a .reasons .now)
+roomy c = omega (arith, listed (c .before .before .before) .1, c .if2 .left)
 
 returns-3 : tie.Need-returns-3
 returns-3 c =
-    let e = c .before .before .before .before in
-    let k = e .before .before in
+    let k = c .before .before .before in
     let a = start k .args in
-    says-conflict (a .deliveries .now) (a .key .now) (a .reasons .now) (listed k .0) (good-key e) _
-    (ap pairOf (sym (c .before .found .given .1)) ∙ c .before .before .before .find-conflict .ensures)
-
-enum-told-2 : tie.Need-enum-told-2
-enum-told-2 c = search needs
-
--- no two deliveries conflict
-quiet : (c : tie.After-enum-told2) → let a = start (c .before .before .before .before .before) .args in
-    none ≡ firstConflict (a .key .now) (entriesIn (a .deliveries .now))
-quiet c = ap pairOf (sym (c .enum-told2 .given .1)) ∙ c .before .before .find-conflict .ensures
-
--- and there is room
-roomy : (c : tie.Else2) → let a = start (c .before .before .before .before .before .before) .args in
-    length (entriesIn (a .deliveries .now)) ≤ length (a .reasons .now)
-roomy c = omega (arith, listed (c .before .before .before .before .before .before) .1, c .if2 .left)
-
-returns-4 : tie.Need-returns-4
-returns-4 c =
-    let e = c .before .before .before .before in
-    let k = e .before .before in
-    let a = start k .args in
-    says-no-room (a .deliveries .now) (a .key .now) (a .reasons .now) (listed k .0) (good-key e) (quiet (c .before)) (omega (arith, listed k .1, c .if2 .taken))
+    says-no-room (a .deliveries .now) (a .key .now) (a .reasons .now) (listed k .0) (good-key (c .before)) (omega (arith, listed k .1, c .if2 .taken))
 
 find-winner-requires : tie.Need-find-winner-requires
-find-winner-requires c κs = listed (c .before .before .before .before .before .before) .0
+find-winner-requires c κs = listed (c .before .before .before) .0
 
 write-reasons-requires : tie.Need-write-reasons-requires
 write-reasons-requires c κs =
-    let e = c .before .before in
-    (listed (e .before .before .before .before .before .before) .0, roomy e, c .before .find-winner .ensures)
+    let w = c .before in
+    let e = w .before in
+    (listed (e .before .before .before) .0, roomy e, w .find-winner .ensures .0, w .find-winner .ensures .1)
 
 same-length : tie.Need-same-length
 same-length c = search needs
 
-returns-5 : tie.Need-returns-5
-returns-5 c =
+returns-4 : tie.Need-returns-4
+returns-4 c =
     let w = c .before .before .before in
-    let e = w .before .before .before in
-    let g = e .before .before .before .before in
-    let k = g .before .before in
+    let f = w .before .before in
+    let e = f .before in
+    let k = e .before .before .before in
     let a = start k .args in
-    says-won (a .deliveries .now) (a .key .now) (a .reasons .now) (listed k .0) (good-key g) (quiet (e .before)) (roomy e) _
-    (w .before .before .find-winner .ensures) _ (w .write-reasons .ensures) (c .if3 .taken)
+    says-won (a .deliveries .now) (a .key .now) (a .reasons .now) (listed k .0) (good-key (e .before)) (roomy e) _
+    (f .find-winner .ensures .0) _ (w .write-reasons .ensures) (c .if3 .taken)
 
 same-length-2 : tie.Need-same-length-2
 same-length-2 c = search needs
 
-returns-6 : tie.Need-returns-6
-returns-6 c =
+returns-5 : tie.Need-returns-5
+returns-5 c =
     let w = c .before .before .before in
-    let e = w .before .before .before in
-    let g = e .before .before .before .before in
-    let k = g .before .before in
+    let f = w .before .before in
+    let e = f .before in
+    let k = e .before .before .before in
     let a = start k .args in
-    says-none (a .deliveries .now) (a .key .now) (a .reasons .now) (listed k .0) (good-key g) (quiet (e .before)) (roomy e) _
-    (w .before .before .find-winner .ensures) _ (w .write-reasons .ensures) (c .if3 .left)
+    says-none (a .deliveries .now) (a .key .now) (a .reasons .now) (listed k .0) (good-key (e .before)) (roomy e) _
+    (f .find-winner .ensures .0) _ (w .write-reasons .ensures) (c .if3 .left)
 
 pub explain-spec : {M : Type 1} → statement M
 explain-spec =
@@ -128,14 +102,10 @@ explain-spec =
     returns
     is-acceptable-key-requires
     returns-2
-    find-conflict-requires
-    enum-known-found
     returns-3
-    enum-told-2
-    returns-4
     find-winner-requires
     write-reasons-requires
     same-length
-    returns-5
+    returns-4
     same-length-2
-    returns-6)
+    returns-5)

@@ -7,7 +7,7 @@ use lib.ListN.{drop}
 use Rattle.wire.specs.declared.Comparison.the-variants.{Below}
 use Rattle.image.specs.Image.{ascending, entriesOf, usedOf, keyIn}
 use Rattle.image.specs.Slot.{slotAt}
-use Rattle.image.proofs.Compared.{same-not-below, above-not-below}
+use Rattle.wire.proofs.Compared.{same-not-below, above-not-below}
 use Rattle.image.proofs.Soundness.{keys-next, keys-bad, keys-end}
 use Rattle.image.proofs.keys_ascend.Statement.{statement}
 use Rattle.image.proofs.keys_ascend.Tie as tie

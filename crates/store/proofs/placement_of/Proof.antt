@@ -28,7 +28,7 @@ beaten : (c : tie.After-beats-slot) → let sought = c .before .before .before i
     c .beats-slot .result ≡ beats (entry start) (slotEntry (slotAt (sought .seek .result .at) (start .args .store .now)))
 beaten c =
     let start = c .before .before .before .before .before .before .before in
-    c .beats-slot .ensures ∙ ap (λ (l : List ℕ). beats (entry start) (slotEntry l)) (c .before .slot .ensures)
+    c .beats-slot .ensures (start .args .key .now) ∙ ap (λ (l : List ℕ). beats (entry start) (slotEntry l)) (c .before .slot .ensures)
 
 returns : tie.Need-returns
 returns c =

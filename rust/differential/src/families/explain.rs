@@ -1,9 +1,12 @@
 //! Lists of deliveries, and why one of them is in force.
 
 use super::list::{any, faulty, of_length};
+use super::reused::tie;
 use crate::make::{any_key, near, pool_key};
-use crate::run::{cases, Outcome, Run, Tally};
+use crate::run::{cases, Run, Tally};
 use crate::same;
+use reference::deliveries;
+use reference::explain::LOWER_CONTENT;
 use support::Rng;
 
 pub fn run(seed: u64, count: u64) -> Tally {
@@ -38,25 +41,6 @@ fn key(rng: &mut Rng, keys: &[Vec<u8>]) -> Vec<u8> {
     }
 }
 
-/// What `explain` answers where the key was never delivered.
-const NONE: u64 = 65_535;
-
-/// What `explain` answers. The winner, wherever it is, is counted as 0 and NONE
-/// as 1.
-impl Outcome for u64 {
-    fn counted_as(self) -> Option<u32> {
-        Some(match (self >> 32) as u32 {
-            0 => u32::from(self == NONE),
-            refusal => refusal << 16,
-        })
-    }
-
-    fn shown(self) -> String {
-        let [earlier, later, refusal] = [0, 16, 32].map(|bits| (self >> bits) as u16);
-        format!("{self:#018x} (refusal {refusal}, places {earlier} and {later})")
-    }
-}
-
 /// The number of deliveries, if the list is readable.
 fn counted(run: &mut Run, list: &mut Vec<u8>) -> Option<usize> {
     let result = same!(run, deliveries, list, |list| (list));
@@ -71,9 +55,30 @@ fn counted(run: &mut Run, list: &mut Vec<u8>) -> Option<usize> {
 /// readable, and the output.
 fn ask(run: &mut Run, lent: &mut (Vec<u8>, Vec<u8>), key: &[u8], count: usize) {
     let answer = same!(run, explain, lent, |l| (&l.0, key, &mut l.1));
-    if answer >> 32 == 0 {
-        for &reason in &lent.1[..count] {
+    if answer >> 16 == 0 {
+        run.count("winner", answer);
+        let reasons = &lent.1[..count];
+        for &reason in reasons {
             run.count("reason", reason.into());
+        }
+        if reasons.contains(&LOWER_CONTENT) {
+            count_ties(run, &lent.0, reasons, answer as usize);
+        }
+    }
+}
+
+/// Counts by what deliveries with the winner's stamp have lower contents, and
+/// on which side of the winner they stand.
+fn count_ties(run: &mut Run, list: &[u8], reasons: &[u8], winner: usize) {
+    let deliveries = deliveries::read(list).expect("a list that was explained");
+    for (place, delivery) in deliveries.iter().enumerate() {
+        if reasons[place] == LOWER_CONTENT {
+            let what = if place < winner {
+                "lower contents before the winner"
+            } else {
+                "lower contents behind the winner"
+            };
+            run.count(what, tie(&deliveries[winner].entry, &delivery.entry));
         }
     }
 }

@@ -3,11 +3,15 @@
 
 use super::clock::any_clock;
 use super::image::{damage, empty, filled, slots};
-use super::message::{any_frame, damaged, odd_frame};
+use super::message::{any_frame, damaged, framed, odd_frame, repl};
+use super::reused::{again, held, tie};
 use crate::make::{any_time, pick};
 use crate::run::{cases, Run, Tally};
 use crate::same;
-use reference::stamp::TIME_END;
+use reference::frame::Message;
+use reference::stamp::{Stamp, TIME_END};
+use reference::store::Entry;
+use reference::value::TOMBSTONE;
 use support::Rng;
 
 pub fn run(seed: u64, count: u64) -> Tally {
@@ -15,8 +19,9 @@ pub fn run(seed: u64, count: u64) -> Tally {
 }
 
 fn case(run: &mut Run, rng: &mut Rng) {
-    match rng.below(3) {
+    match rng.below(4) {
         0 => single(run, rng),
+        1 => equal_stamps(run, rng),
         _ => journal(run, rng),
     }
 }
@@ -34,10 +39,10 @@ fn reply(rng: &mut Rng) -> Vec<u8> {
 /// The store, the clock and the reply buffer.
 type State = (Vec<u8>, Vec<u64>, Vec<u8>);
 
-fn request(run: &mut Run, state: &mut State, now: u64, frame: &[u8]) {
+fn request(run: &mut Run, state: &mut State, now: u64, frame: &[u8]) -> u32 {
     same!(run, handle, state, |l| (
         &mut l.0, &mut l.1, now, frame, &mut l.2
-    ));
+    ))
 }
 
 fn journal(run: &mut Run, rng: &mut Rng) {
@@ -47,8 +52,57 @@ fn journal(run: &mut Run, rng: &mut Rng) {
     for _ in 0..60 {
         now = next_time(rng, now);
         state.2 = reply(rng);
-        let frame = any_frame(rng, now);
+        let known = rng.one_in(6).then(|| held(rng, &state.0)).flatten();
+        let frame = match known {
+            Some(entry) => framed(&repl(again(rng, &entry))),
+            None => any_frame(rng, now),
+        };
         request(run, &mut state, now, &frame);
+    }
+}
+
+/// Requests with the stamps that a store's entries have.
+fn equal_stamps(run: &mut Run, rng: &mut Rng) {
+    let slots = slots(rng);
+    let mut state = (filled(rng, slots), vec![], vec![]);
+    for _ in 0..30 {
+        let Some(known) = held(rng, &state.0) else {
+            return;
+        };
+        let entry = again(rng, &known);
+        let now = known.stamp.phys;
+        state.1 = clock_before(rng, known.stamp);
+        state.2 = reply(rng);
+        let (what, message, expected) = if rng.one_in(2) {
+            ("local write at an equal stamp", local(entry.clone()), 7)
+        } else {
+            ("REPL at an equal stamp", repl(entry.clone()), 0)
+        };
+        let result = request(run, &mut state, now, &framed(&message));
+        if result >> 16 == expected {
+            run.count(what, tie(&known, &entry));
+        }
+    }
+}
+
+/// A clock of the stamp's node whose send at the stamp's time gives the stamp,
+/// but for a stamp of count 0 at time 0, which no send gives.
+fn clock_before(rng: &mut Rng, stamp: Stamp) -> Vec<u64> {
+    let (phys, logical) = match stamp.logical {
+        0 => (rng.below(stamp.phys.max(1)), rng.below(4)),
+        count => (stamp.phys, u64::from(count) - 1),
+    };
+    vec![phys, logical, stamp.node.into(), 0]
+}
+
+/// The local write of an entry's contents.
+fn local(entry: Entry) -> Message {
+    let Entry {
+        key, value, flag, ..
+    } = entry;
+    match flag {
+        TOMBSTONE => Message::Del { key },
+        _ => Message::Put { key, value },
     }
 }
 

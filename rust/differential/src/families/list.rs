@@ -1,11 +1,13 @@
 //! Random lists of deliveries: readable ones, and ones with a fault.
 
 use super::image::small_stamp;
-use super::message::{damaged, framed, odd_body, odd_frame, reply, request};
+use super::message::{damaged, framed, odd_body, odd_frame, repl, reply, request};
+use super::reused::again;
 use crate::make::{pick, pool_key};
 use reference::deliveries::DELIVERIES_MAX;
-use reference::frame::{read, sealed, Message, REPL};
+use reference::frame::{sealed, REPL};
 use reference::stamp::{Stamp, TIME_END};
+use reference::store::Entry;
 use reference::value::{ACTIVE, TOMBSTONE, VALUE_MAX};
 use support::Rng;
 
@@ -21,8 +23,6 @@ struct Style {
     keys: Vec<Vec<u8>>,
     /// Which stamps they have.
     stamps: u64,
-    /// How many of 1,000 come again with other contents, which is a conflict.
-    altered: u64,
     /// Whether values may be long.
     long: bool,
 }
@@ -46,52 +46,38 @@ pub fn of_length(rng: &mut Rng, length: usize) -> List {
     let style = Style {
         keys: (0..1 + rng.index(3)).map(|_| pool_key(rng)).collect(),
         stamps: rng.below(4),
-        altered: pick(rng, &[0, 0, 1, 30, 200]),
         long: length < 100 && rng.one_in(3),
     };
-    let mut frames = Vec::new();
-    while frames.len() < length {
-        let frame = next(rng, &style, &frames);
-        frames.push(frame);
+    let mut entries = Vec::new();
+    while entries.len() < length {
+        let entry = next(rng, &style, &entries);
+        entries.push(entry);
     }
-    let keys = style.keys;
-    List { keys, frames }
+    let frames = entries.into_iter().map(|entry| framed(&repl(entry)));
+    List {
+        keys: style.keys,
+        frames: frames.collect(),
+    }
 }
 
-/// A new delivery, or one of the earlier ones again.
-fn next(rng: &mut Rng, style: &Style, frames: &[Vec<u8>]) -> Vec<u8> {
-    if !frames.is_empty() {
-        let earlier = &frames[rng.index(frames.len())];
-        if rng.below(1000) < style.altered {
-            return altered(rng, style, earlier);
-        }
-        if rng.one_in(6) {
-            return earlier.clone();
+/// A new entry, or one of the earlier ones again, as it was or with other
+/// contents.
+fn next(rng: &mut Rng, style: &Style, entries: &[Entry]) -> Entry {
+    if !entries.is_empty() {
+        let earlier = &entries[rng.index(entries.len())];
+        match rng.below(8) {
+            0 => return earlier.clone(),
+            1 | 2 => return again(rng, earlier),
+            _ => (),
         }
     }
-    let key = style.keys[rng.index(style.keys.len())].clone();
-    let stamp = stamp(rng, style.stamps);
-    // The contents follow from the stamp, so equal stamps are no conflict.
-    let fields = [stamp.phys, stamp.logical.into(), stamp.node.into()];
-    let seed = fields.iter().fold(0, |seed, f| Rng::new(seed ^ f).word());
-    repl(key, stamp, contents(&mut Rng::new(seed), style.long))
-}
-
-/// The same key and stamp, mostly with other contents.
-fn altered(rng: &mut Rng, style: &Style, frame: &[u8]) -> Vec<u8> {
-    let Ok(Message::Repl { key, stamp, .. }) = read(frame) else {
-        unreachable!("every frame is a delivery");
-    };
-    repl(key, stamp, contents(rng, style.long))
-}
-
-fn repl(key: Vec<u8>, stamp: Stamp, (flag, value): (u8, Vec<u8>)) -> Vec<u8> {
-    framed(&Message::Repl {
-        key,
-        flag,
-        stamp,
+    let (flag, value) = contents(rng, style.long);
+    Entry {
+        key: style.keys[rng.index(style.keys.len())].clone(),
         value,
-    })
+        flag,
+        stamp: stamp(rng, style.stamps),
+    }
 }
 
 /// Very few stamps; few; few with fields at the ends of their bytes and ranges;

@@ -3,12 +3,29 @@
 use crate::make::{any_key, flag, good_value, logical, pick, pool_key};
 use reference::frame::{sealed, time_bytes, Message, FRAME_MAX};
 use reference::stamp::{Stamp, TIME_END};
+use reference::store::Entry;
 use support::Rng;
 
 pub fn framed(message: &Message) -> Vec<u8> {
     let mut out = [0; FRAME_MAX];
     let length = message.write(&mut out).expect("a right message fits");
     out[..length].to_vec()
+}
+
+/// The REPL that delivers an entry.
+pub fn repl(entry: Entry) -> Message {
+    let Entry {
+        key,
+        value,
+        flag,
+        stamp,
+    } = entry;
+    Message::Repl {
+        key,
+        flag,
+        stamp,
+        value,
+    }
 }
 
 /// A REPL's stamp: small, so that stamps meet; near `now`; or any.

@@ -2,13 +2,14 @@
 //! calls on damaged images.
 
 use super::image::{self, damage, empty, filled, slots, small_stamp};
+use super::reused::{again, held, tie};
 use crate::make::{
     any_key, any_time, any_value, flag, good_value, logical, near, pick, pool_key, words,
 };
 use crate::run::{cases, Run, Tally};
 use crate::same;
 use reference::stamp::Stamp;
-use reference::store::image_length;
+use reference::store::{entries, image_length, Entry};
 use support::Rng;
 
 pub fn run(seed: u64, count: u64) -> Tally {
@@ -58,6 +59,40 @@ fn offer_good(run: &mut Run, rng: &mut Rng, store: &mut Vec<u8>) {
     ));
 }
 
+/// An entry with the key and the stamp of one that a store holds.
+fn offer_again(run: &mut Run, rng: &mut Rng, store: &mut Vec<u8>, other: &[u8]) {
+    let Some(known) = held(rng, other) else {
+        return;
+    };
+    let entry = again(rng, &known);
+    let there = entries(store).unwrap_or_default();
+    count_tie(run, "offer at an equal stamp", &there, &entry);
+    let Entry {
+        key,
+        value,
+        flag,
+        stamp,
+    } = &entry;
+    same!(run, store_offer, store, |s| (
+        s,
+        key,
+        value,
+        u32::from(*flag),
+        stamp.phys,
+        stamp.logical,
+        stamp.node
+    ));
+}
+
+/// Counts how an entry compares with the one there that has its key and stamp,
+/// if there is one.
+fn count_tie(run: &mut Run, what: &'static str, there: &[Entry], entry: &Entry) {
+    let is_tied = |e: &&Entry| e.key == entry.key && e.stamp == entry.stamp;
+    if let Some(held) = there.iter().find(is_tied) {
+        run.count(what, tie(held, entry));
+    }
+}
+
 /// Any entry at all.
 fn offer_any(run: &mut Run, rng: &mut Rng, store: &mut Vec<u8>) {
     let (key, value, flag) = (any_key(rng), any_value(rng), flag(rng));
@@ -95,15 +130,16 @@ fn history(run: &mut Run, rng: &mut Rng) {
     let mut stores: Vec<Vec<u8>> = (0..3).map(|_| create(run, rng)).collect();
     for _ in 0..40 {
         let at = rng.index(stores.len());
-        match rng.below(12) {
+        let other = stores[rng.index(stores.len())].clone();
+        match rng.below(14) {
             0 => offer_any(run, rng, &mut stores[at]),
             1 | 2 => {
-                let giver = stores[rng.index(3)].clone();
                 let receiver = std::mem::take(&mut stores[at]);
-                stores[at] = merge(run, receiver, giver);
+                stores[at] = merge(run, receiver, other);
             }
             3 | 4 => lookup(run, rng, &stores[at]),
             5 | 6 => entry(run, rng, &stores[at]),
+            7..=9 => offer_again(run, rng, &mut stores[at], &other),
             _ => offer_good(run, rng, &mut stores[at]),
         }
     }
@@ -113,8 +149,14 @@ fn history(run: &mut Run, rng: &mut Rng) {
 }
 
 fn merge(run: &mut Run, receiver: Vec<u8>, giver: Vec<u8>) -> Vec<u8> {
+    let there = entries(&receiver).unwrap_or_default();
     let mut lent = (receiver, giver);
-    same!(run, store_merge, &mut lent, |l| (&mut l.0, &l.1));
+    let result = same!(run, store_merge, &mut lent, |l| (&mut l.0, &l.1));
+    if result == 0 {
+        for entry in entries(&lent.1).unwrap_or_default() {
+            count_tie(run, "merge at an equal stamp", &there, &entry);
+        }
+    }
     lent.0
 }
 

@@ -22,52 +22,40 @@ abbrev μ-loop : tie.MeasureT-loop
 loop-holds : tie.Need-loop-holds Inv-loop μ-loop
 loop-holds c = let a = c .before .before .before in (stands-first (a .args .list .now) (a .pre .0), refl, refl)
 
-sub-peek : tie.Need-sub-peek Inv-loop μ-loop
-sub-peek c = search needs
-
-part-peek-start : tie.Need-part-peek-start Inv-loop μ-loop
-part-peek-start c = search needs
-
-part-peek-end : tie.Need-part-peek-end Inv-loop μ-loop
-part-peek-end c = search needs
-
 peek-requires : tie.Need-peek-requires Inv-loop μ-loop
-peek-requires c κs = search needs
-
-byte-of-requires : tie.Need-byte-of-requires Inv-loop μ-loop
-byte-of-requires c κs = search needs
+peek-requires c κs = c .before .loop .inv .0 .within
 
 -- the delivery that a turn meets
 abbrev begun : tie.After-peek Inv-loop μ-loop → tie.Start Inv-loop μ-loop
-begun c = c .before .before .before .before .before .before .before
+begun c = c .before .before .before .before .before .before
 
-met : (c : tie.After-peek Inv-loop μ-loop) → let l = c .before .before .before .loop in
+byte-of-requires : tie.Need-byte-of-requires Inv-loop μ-loop
+byte-of-requires c κs = (begun c .pre .3, c .peek .ensures .1)
+
+met : (c : tie.After-peek Inv-loop μ-loop) → let l = c .before .before .loop in
     Step (begun c .args .list .now) (begun c .args .key .now) (entriesIn (begun c .args .list .now)) (l .at) (l .place) (c .peek .result)
-met c = let t = c .before .before in step (t .before .loop .inv .0) (t .loop-test .taken) _ _ (c .peek .ensures .0)
+met c = let t = c .before in step (t .before .loop .inv .0) (t .loop-test .taken) _ _ (c .peek .ensures .0)
 
 slice-write-reasons : tie.Need-slice-write-reasons Inv-loop μ-loop
 slice-write-reasons c =
     let t = c .before in
-    omega (arith, met t .more, begun t .pre .1, t .before .before .before .loop .inv .1)
-
-add-at : tie.Need-add-at Inv-loop μ-loop
-add-at c = search needs
+    omega (arith, met t .more, begun t .pre .1, t .before .before .loop .inv .1)
 
 add-place : tie.Need-add-place Inv-loop μ-loop
-add-place c = let t = c .before .before in omega (arith, met t .more, most (begun t .args .list .now) (begun t .pre .0))
+add-place c = let t = c .before in omega (arith, met t .more, most (begun t .args .list .now) (begun t .pre .0))
 
 loop-less : tie.Need-loop-less Inv-loop μ-loop
-loop-less c = let t = met (c .before .before) in omega (arith, t .some-bytes, t .next .within)
+loop-less c = let t = met (c .before) in omega (arith, t .farther, t .next .within)
 
 loop-again : tie.Need-loop-again Inv-loop μ-loop
 loop-again c =
-    let t = met (c .before .before) in
-    let l = c .before .before .before .before .before .loop in
-    let start = begun (c .before .before) in (
+    let t = met (c .before) in
+    let l = c .before .before .before .loop in
+    let start = begun (c .before) in (
       t .next,
       simp length-set (l .inv .1),
       write-turn (start .args .key .now) (entriesIn (start .args .list .now)) (start .args .reasons .now) t (start .pre .1) _ (start .pre .2)
-          _ (c .before .byte-of .ensures) _ (l .inv .2),
+          _ (c .byte-of .ensures) _ (l .inv .2),
     )
 
 same-length : tie.Need-same-length Inv-loop μ-loop
@@ -86,13 +74,9 @@ write-reasons-spec =
     Inv-loop
     μ-loop
     loop-holds
-    sub-peek
-    part-peek-start
-    part-peek-end
     peek-requires
     byte-of-requires
     slice-write-reasons
-    add-at
     add-place
     loop-less
     loop-again

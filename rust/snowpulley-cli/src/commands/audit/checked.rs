@@ -28,8 +28,9 @@ pub const WINNER: Checked = Checked {
             "winner-is-held",
         ),
         (
-            "Each outcome is true of the stamps of its delivery and of the one in force. One \
-             delivery is in force; if the same entry came more than once, the first of them.",
+            "Each outcome is true of the stamps of its delivery and of the one in force, and of \
+             their contents where the stamps are the same. One delivery is in force; if the same \
+             entry came more than once, the first of them.",
             "reasons-mean",
         ),
     ],
@@ -48,18 +49,6 @@ pub const NO_DELIVERY: Checked = Checked {
             "winner-is-held",
         ),
     ],
-};
-
-pub const CONFLICT: Checked = Checked {
-    sources: "The proved library answered that two deliveries of this key have the same stamp and \
-              differ, and which two. It judges no single delivery then: the tool itself compared \
-              the keys, read the fields of each delivery and counted the deliveries.",
-    theorems: &[(
-        "Two deliveries are named exactly if they are of this key, have the same stamp and \
-         differ, and no such pair is before them: none has an earlier second delivery, and none \
-         with the same second delivery an earlier first one.",
-        "conflict-exactly",
-    )],
 };
 
 pub const UNREADABLE: Checked = Checked {
@@ -94,13 +83,15 @@ impl Checked {
 /// Above what the answer does not say.
 pub const LIMITS_TITLE: &str = "What this report does not say";
 
-pub const LIMITS: [&str; 5] = [
+pub const LIMITS: [&str; 6] = [
     "The module's own PUT and DEL (what was set or deleted on the module itself), and what came \
      in a merged store (all of another module's at once), are not in the list. If one of them has \
-     a greater stamp, the module holds that one.",
+     a greater stamp, or the same stamp and higher contents, the module holds that one.",
     "The list may lack deliveries that came, or have some that did not come.",
     "The module may have refused a delivery of the list, as with a full store or with a clock \
      that can count no further.",
     "A module's clock may have been wrong. The stamps are taken as they are.",
+    "A reused stamp is pointed out only where the delivery in force has it: deliveries that lost \
+     by their stamps are not compared with each other.",
     "The tool that made this report is tested, not proved.",
 ];

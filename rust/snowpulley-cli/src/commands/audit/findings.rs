@@ -6,9 +6,9 @@ use crate::cli::{failure, Failure};
 use crate::text::bytes::{fitting, shown};
 use crate::text::table::{Column, Side};
 use crate::text::time::utc;
-use snowpulley::audit::{explain, read, Delivery, Explained, Reason, Unreadable, DELIVERIES_MAX};
+use snowpulley::audit::{explain, read, Reason, Unreadable, DELIVERIES_MAX};
 use snowpulley::checksum::crc32c;
-use snowpulley::{Content, Refusal};
+use snowpulley::{Content, Entry, Refusal};
 
 pub const COLUMNS: [Column; 6] = [
     (Side::Right, "delivery"),
@@ -29,8 +29,23 @@ pub fn with_key<T>(key: T, cells: [T; 6]) -> [T; 7] {
 pub const NOTE: &str = "Each delivery is a REPL frame of the list: the message by which a module \
     sends an entry to another one. Deliveries are counted from 0, in the order of the list. Time, \
     count and module id are the stamp that the writing module gave; they decide in this order, and \
-    the greatest wins. Times are shown as counted from 1970-01-01 00:00 UTC, which is the site's \
-    convention and not a rule of the store.";
+    where all three are equal the contents decide (the value, or that it is a deletion). Times are \
+    shown as counted from 1970-01-01 00:00 UTC, which is the site's convention and not a rule of \
+    the store.";
+
+/// Above what it means that a stamp was reused.
+pub const REUSED_TITLE: &str = "The reused stamp";
+
+pub const REUSED: &str = "A delivery with the outcome \"same stamp, lower contents\" has the \
+    stamp of the one in force, but another value, or one of the two is a deletion. So more than \
+    one entry was written under one stamp, which should not happen. It can happen when a module is \
+    restored from an old copy, when its clock is set anew, or when two modules have the same id. \
+    Nothing here tells which entry was written last, or which was meant. Modules that all of them \
+    reached keep the same one, by a fixed rule: a deletion rather than a value; of two values the \
+    one with the greater byte where they first differ, or the longer one if it begins with the \
+    other. Values are not read as amounts: \"+95\" is kept rather than \"+120\". What to do: ask \
+    who made these entries, and what was done to the module with this id; then have the right \
+    value written anew (docs/AUDIT.md, \"A reused stamp\").";
 
 /// How many columns a value may take, unless all of it is asked for: in the
 /// answer, and in a table, whose lines so have at most 120.
@@ -45,16 +60,20 @@ pub struct Findings<'a> {
     list: &'a [u8],
     key: &'a [u8],
     /// None where the list cannot be read.
-    deliveries: Vec<Delivery<'a>>,
+    deliveries: Vec<Judged<'a>>,
     answer: Answer<'a>,
 }
 
+/// A delivery, and what the library says of it.
+struct Judged<'a> {
+    entry: Entry<'a>,
+    reason: Reason,
+}
+
 enum Answer<'a> {
-    /// The winner's place, and what the library says of each delivery.
-    Winner(usize, Vec<Reason>),
-    /// The same without a winner.
-    NoDelivery(Vec<Reason>),
-    Conflict(usize, usize),
+    /// The winner's place.
+    Winner(usize),
+    NoDelivery,
     Unreadable(Unreadable<'a>),
 }
 
@@ -62,33 +81,29 @@ enum Answer<'a> {
 pub struct Row {
     pub cells: [String; 6],
     pub key: String,
-    /// Whether the answer names the delivery.
-    pub is_named: bool,
+    /// Whether the delivery is in force.
+    pub is_winner: bool,
 }
 
 impl<'a> Findings<'a> {
     pub fn of(name: String, list: &'a [u8], key: &'a [u8]) -> Result<Findings<'a>, Failure> {
         let mut reasons = [0; DELIVERIES_MAX];
-        let explained = explain(list, key, &mut reasons);
-        let (deliveries, answer) = match (explained, read(list)) {
-            (Explained::Refused(Refusal::BadArgument), Err(unreadable)) => {
+        let (deliveries, answer) = match (explain(list, key, &mut reasons), read(list)) {
+            (Err(Refusal::BadArgument), Err(unreadable)) => {
                 (Vec::new(), Answer::Unreadable(unreadable))
             }
-            (Explained::Refused(refusal), _) => {
+            (Err(refusal), _) => {
                 let key = shown(key, ALL);
                 return Err(failure(format!("key {key}: refused with {refusal}")));
             }
             (_, Err(_)) => return Err(failure("the library reads the list, and the tool cannot")),
-            (Explained::Winner(place), Ok(deliveries)) => {
-                let reasons = reasons_of(&reasons[..deliveries.len()])?;
-                (deliveries, Answer::Winner(place, reasons))
-            }
-            (Explained::NoDelivery, Ok(deliveries)) => {
-                let reasons = reasons_of(&reasons[..deliveries.len()])?;
-                (deliveries, Answer::NoDelivery(reasons))
-            }
-            (Explained::Conflict { earlier, later }, Ok(deliveries)) => {
-                (deliveries, Answer::Conflict(earlier, later))
+            (Ok(winner), Ok(deliveries)) => {
+                let entries = deliveries.iter().map(|delivery| delivery.entry);
+                let deliveries: Result<_, _> = entries.zip(reasons).map(judged).collect();
+                (
+                    deliveries?,
+                    winner.map_or(Answer::NoDelivery, Answer::Winner),
+                )
             }
         };
         Ok(Findings {
@@ -102,7 +117,7 @@ impl<'a> Findings<'a> {
 
     /// Whether a delivery is in force.
     pub fn is_good(&self) -> bool {
-        matches!(self.answer, Answer::Winner(..))
+        matches!(self.answer, Answer::Winner(_))
     }
 
     pub fn key(&self) -> String {
@@ -115,21 +130,15 @@ impl<'a> Findings<'a> {
         format!("{bytes} bytes, checksum CRC32C {checksum:#010x}")
     }
 
-    /// The answer, in a few lines. Values that differ are shown in full.
+    /// The answer, in a few lines.
     pub fn answer(&self, full: bool) -> String {
         let key = self.key();
-        let none = format!("No delivery of {key} can be named:");
         match &self.answer {
-            Answer::Winner(place, _) => self.in_force(*place, if full { ALL } else { IN_ANSWER }),
-            Answer::NoDelivery(_) => format!("The list has no delivery of {key}."),
-            Answer::Conflict(earlier, later) => format!(
-                "{none}\ndelivery {earlier} ({}) and delivery {later} ({}) have the same stamp and \
-                 differ.\nThis is the first such pair; there may be more.",
-                self.content(*earlier, ALL),
-                self.content(*later, ALL)
-            ),
+            Answer::Winner(place) => self.in_force(*place, if full { ALL } else { IN_ANSWER }),
+            Answer::NoDelivery => format!("The list has no delivery of {key}."),
             Answer::Unreadable(fault) => {
-                format!("{none}\n{}", unreadable::told(self.list, fault))
+                let told = unreadable::told(self.list, fault);
+                format!("No delivery of {key} can be named:\n{told}")
             }
         }
     }
@@ -137,10 +146,23 @@ impl<'a> Findings<'a> {
     fn in_force(&self, place: usize, width: usize) -> String {
         let (key, stamp) = (self.key(), self.deliveries[place].entry.stamp);
         let (content, time, node) = (self.content(place, width), utc(stamp.phys), stamp.node);
-        format!(
+        let mut text = format!(
             "Of the deliveries in this list, delivery {place} is in force for {key}:\n\
              {content}, stamped {time} UTC by module {node}."
-        )
+        );
+        if self.has_reused_stamp() {
+            text += &format!(
+                "\nThis stamp was given to more than one entry, which should not happen:\n\
+                 see \"{REUSED_TITLE}\" below."
+            );
+        }
+        text
+    }
+
+    /// Whether a delivery has the winner's stamp and other contents.
+    pub fn has_reused_stamp(&self) -> bool {
+        let mut deliveries = self.deliveries.iter();
+        deliveries.any(|delivery| delivery.reason == Reason::LowerContent)
     }
 
     fn content(&self, place: usize, width: usize) -> String {
@@ -175,15 +197,7 @@ impl<'a> Findings<'a> {
     }
 
     fn is_of_key(&self, place: usize) -> bool {
-        match &self.answer {
-            Answer::Winner(_, reasons) | Answer::NoDelivery(reasons) => {
-                reasons[place] != Reason::OtherKey
-            }
-            // The library says nothing of each delivery.
-            Answer::Conflict(..) | Answer::Unreadable(_) => {
-                self.deliveries[place].entry.key == self.key
-            }
-        }
+        self.deliveries[place].reason != Reason::OtherKey
     }
 
     /// A row for each delivery of the key, or for all.
@@ -195,66 +209,44 @@ impl<'a> Findings<'a> {
     }
 
     fn row(&self, place: usize, width: usize) -> Row {
-        let entry = self.deliveries[place].entry;
+        let Judged { entry, reason } = self.deliveries[place];
         let cells = [
             place.to_string(),
             utc(entry.stamp.phys),
             entry.stamp.logical.to_string(),
             entry.stamp.node.to_string(),
             self.content(place, width),
-            self.outcome(place),
+            compared(reason).to_string(),
         ];
         Row {
             cells,
             key: fitting(entry.key, width),
-            is_named: self.names(place),
+            is_winner: reason == Reason::Won,
         }
     }
 
     /// What was checked of the answer.
     pub fn checked(&self) -> Checked {
         match self.answer {
-            Answer::Winner(..) => checked::WINNER,
-            Answer::NoDelivery(_) => checked::NO_DELIVERY,
-            Answer::Conflict(..) => checked::CONFLICT,
+            Answer::Winner(_) => checked::WINNER,
+            Answer::NoDelivery => checked::NO_DELIVERY,
             Answer::Unreadable(_) => checked::UNREADABLE,
         }
     }
-
-    fn names(&self, place: usize) -> bool {
-        match self.answer {
-            Answer::Winner(winner, _) => place == winner,
-            Answer::Conflict(earlier, later) => place == earlier || place == later,
-            Answer::NoDelivery(_) | Answer::Unreadable(_) => false,
-        }
-    }
-
-    fn outcome(&self, place: usize) -> String {
-        match &self.answer {
-            Answer::Winner(_, reasons) | Answer::NoDelivery(reasons) => compared(reasons[place]),
-            Answer::Conflict(one, two) if place == *one => conflicting(*two),
-            Answer::Conflict(one, two) if place == *two => conflicting(*one),
-            _ if self.is_of_key(place) => "not judged".to_string(),
-            _ => compared(Reason::OtherKey),
-        }
-    }
 }
 
-fn reasons_of(bytes: &[u8]) -> Result<Vec<Reason>, Failure> {
-    let reasons = bytes.iter().map(|byte| Reason::of(*byte));
+/// A delivery by its entry and the byte of its reason.
+fn judged((entry, byte): (Entry<'_>, u8)) -> Result<Judged<'_>, Failure> {
     let unknown = || failure("the library gives a reason that the tool does not know");
-    reasons.collect::<Option<_>>().ok_or_else(unknown)
+    let reason = Reason::of(byte).ok_or_else(unknown)?;
+    Ok(Judged { entry, reason })
 }
 
 /// A reason in the words of a report: there a node is a module.
-fn compared(reason: Reason) -> String {
+fn compared(reason: Reason) -> &'static str {
     match reason {
-        Reason::Won => "WON".to_string(),
-        Reason::LowerNode => "same time and count, lower module id".to_string(),
-        other => other.to_string(),
+        Reason::Won => "WON",
+        Reason::LowerNode => "same time and count, lower module id",
+        other => other.text(),
     }
-}
-
-fn conflicting(other: usize) -> String {
-    format!("same stamp as delivery {other}, differs")
 }

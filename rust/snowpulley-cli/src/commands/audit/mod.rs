@@ -12,7 +12,7 @@ use crate::files;
 use crate::text::table::Table;
 use crate::text::wrap::wrapped;
 use checked::{LIMITS, LIMITS_TITLE};
-use findings::{with_key, Findings, Row, COLUMNS, KEY_COLUMN, NOTE};
+use findings::{with_key, Findings, Row, COLUMNS, KEY_COLUMN, NOTE, REUSED, REUSED_TITLE};
 use std::fmt::Write;
 
 pub const COMMAND: Command = Command {
@@ -21,11 +21,11 @@ pub const COMMAND: Command = Command {
     summary: "say which delivery of a key is in force, and why not the others",
     help: &["\
 Says which delivery of KEY is in force, with the time and the module of its
-stamp, and why each other delivery of KEY is not. LIST is a file of REPL frames,
-one right after the other, in the order in which they came, at most 1000; or -
-for standard input. The module's own PUT and DEL, and what came in a merged
-store, are not in the list. snowpulley replay --deliveries makes a list of a
-journal.
+stamp, and why each other delivery of KEY is not; and whether that stamp was
+given to another entry of KEY as well. LIST is a file of REPL frames, one right
+after the other, in the order in which they came, at most 1000; or - for
+standard input. The module's own PUT and DEL, and what came in a merged store,
+are not in the list. snowpulley replay --deliveries makes a list of a journal.
 
   --all        list the deliveries of other keys as well
   --full       show all of long values
@@ -33,8 +33,8 @@ journal.
                it may begin with x or 0x
   --html FILE  write the same as a page for printing, with all of each value
 
-Negative answers are: a list without a delivery of KEY; two deliveries of KEY
-that have the same stamp and differ; a list that is not readable as REPL frames.
+Negative answers are: a list without a delivery of KEY; a list that is not
+readable as REPL frames.
 "],
     run,
 };
@@ -63,6 +63,9 @@ fn text(findings: &Findings<'_>, all: bool, full: bool) -> String {
     let rows = findings.rows(all, full);
     if !rows.is_empty() {
         let _ = write!(text, "\n{}\n{}", table(rows, all), wrapped("", NOTE));
+    }
+    if findings.has_reused_stamp() {
+        let _ = write!(text, "\n{REUSED_TITLE}:\n{}", wrapped("", REUSED));
     }
     let checked = findings.checked();
     let (sources, names) = (wrapped("", checked.sources), wrapped("", &checked.names()));

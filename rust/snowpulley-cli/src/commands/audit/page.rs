@@ -1,7 +1,7 @@
 //! The report as a page of HTML: black on white, for sheets of A4.
 
 use super::checked::{Checked, Proved, CONTRACT, LIMITS, LIMITS_TITLE};
-use super::findings::{with_key, Findings, Row, COLUMNS, KEY_COLUMN, NOTE};
+use super::findings::{with_key, Findings, Row, COLUMNS, KEY_COLUMN, NOTE, REUSED, REUSED_TITLE};
 use crate::cli::VERSION;
 use crate::text::markup::escaped;
 use crate::text::table::{Column, Side};
@@ -30,7 +30,7 @@ th { border-bottom-width: 0.5mm }
 th:first-child, td:first-child { padding-left: 0 }
 th:last-child, td:last-child { padding-right: 0 }
 .number { text-align: right }
-.named td { font-weight: bold; border-top: 0.5mm solid black; border-bottom-width: 0.5mm }
+.winner td { font-weight: bold; border-top: 0.5mm solid black; border-bottom-width: 0.5mm }
 footer { font-size: 8.5pt }
 .small { font-size: 8.5pt }
 table + p { margin-top: 2mm }
@@ -55,6 +55,10 @@ pub fn page(findings: &Findings<'_>, all: bool) -> String {
     if !rows.is_empty() {
         table(&mut body, &rows, all);
         let _ = writeln!(body, "<p class=\"small\">{}</p>", escaped(NOTE));
+    }
+    if findings.has_reused_stamp() {
+        element(&mut body, "h2", REUSED_TITLE);
+        element(&mut body, "p", REUSED);
     }
     footer(&mut body, &findings.checked());
     let (key, size) = (escaped(&findings.key()), findings.size());
@@ -109,7 +113,11 @@ fn table(body: &mut String, rows: &[Row], all: bool) {
     }
     body.push_str("</tr>\n</thead>\n<tbody>\n");
     for row in rows {
-        let class = if row.is_named { " class=\"named\"" } else { "" };
+        let class = if row.is_winner {
+            " class=\"winner\""
+        } else {
+            ""
+        };
         let _ = write!(body, "<tr{class}>");
         let cells = row.cells.each_ref();
         let cells = match all {

@@ -1,5 +1,6 @@
 //! `snowpulley demo`: what went wrong on the site, on the proved library.
 
+mod reuse;
 mod tale;
 
 use crate::args::Args;
@@ -11,7 +12,7 @@ use crate::text::entries;
 use crate::text::message::{of_entry, of_message};
 use crate::text::time::time_of_day;
 use snowpulley::store::{self, Found, Offered};
-use snowpulley::{Message, Refusal};
+use snowpulley::{Entry, Message, Refusal};
 use tale::Tale;
 
 pub const COMMAND: Command = Command {
@@ -20,9 +21,10 @@ pub const COMMAND: Command = Command {
     summary: "replay what went wrong on the site, with a theorem behind each line",
     help: &["\
 Two modules agree on a correction. One sleeps while the other is mended, wakes
-and offers the old one. Each line is a call of the proved library and names the
-theorem, of docs/AUDIT.md, or the definition that it shows. A line that does not
-hold is marked WRONG, and is a negative answer.
+and offers the old one. Then a module that was restored from a spare card reuses
+a stamp. Each line is a call of the proved library and names the theorem, of
+docs/AUDIT.md, or the definition that it shows. A line that does not hold is
+marked WRONG, and is a negative answer.
 "],
     run,
 };
@@ -52,6 +54,7 @@ fn run(args: Args) -> Outcome {
     demo.wake()?;
     demo.merge()?;
     demo.show()?;
+    demo.reuse()?;
     demo.name_owners()?;
     let (text, holds) = demo.tale.finish();
     Ok(Report {
@@ -131,15 +134,26 @@ impl Demo {
     ) -> Result<(), Refusal> {
         let image = self.store(giver).clone();
         for entry in store::entries(&image)? {
-            let told = store::offer(self.store(receiver), &entry)?;
-            let name = match told {
-                Offered::Stored => "stored",
-                Offered::Replaced => "replaced",
-                Offered::Kept => "kept",
-            };
-            let said = format!("is offered {}: {name}", of_entry(&entry, SHORT));
-            self.check("history: answered", now, receiver, &said, told == expected);
+            self.offer(now, receiver, &entry, expected)?;
         }
+        Ok(())
+    }
+
+    fn offer(
+        &mut self,
+        now: u64,
+        receiver: Which,
+        entry: &Entry<'_>,
+        expected: Offered,
+    ) -> Result<(), Refusal> {
+        let told = store::offer(self.store(receiver), entry)?;
+        let name = match told {
+            Offered::Stored => "stored",
+            Offered::Replaced => "replaced",
+            Offered::Kept => "kept",
+        };
+        let said = format!("is offered {}: {name}", of_entry(entry, SHORT));
+        self.check("history: answered", now, receiver, &said, told == expected);
         Ok(())
     }
 
@@ -228,7 +242,7 @@ impl Demo {
     }
 
     fn name_owners(&mut self) -> Result<(), Failure> {
-        let heading = "Which three of modules 1 to 4 should hold the correction?";
+        let heading = "Which three of modules 1 to 4 should hold the correction of scale 3?";
         self.tale.heading(heading);
         let standing = cluster(&[])?.walk(CORRECTION)?.standing;
         let holds = standing.as_ref().is_some_and(|owners| owners.len() == 3);
