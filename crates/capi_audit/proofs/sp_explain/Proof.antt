@@ -1,5 +1,4 @@
 use borrow.Author.Needs.{needs}
-use native.Mathlib.Omega.{arith}
 use mathlib.Core.Path.{ap, _∙_}
 use Rattle.capi_audit.specs.Audit.{explainedWord}
 use Rattle.capi_audit.proofs.Places.{explained-small}
