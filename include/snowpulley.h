@@ -20,6 +20,9 @@
  *
  * A time is in milliseconds, from 0 to SP_TIME_END - 1, and counts from a moment that is the same
  * for all modules. `now` is the caller's own reading of the time; it may stand still or go back.
+ *
+ * A key that was deleted keeps its slot, as a tombstone, until sp_store_purge removes it. A purge
+ * is done on all modules of a site; what it asks of them is said there.
  */
 #ifndef SNOWPULLEY_H
 #define SNOWPULLEY_H
@@ -61,6 +64,9 @@ typedef uint32_t sp_result;
 #define SP_BAD_ARGUMENT 17   /* a number out of its range, an id twice, a tombstone with a value,
                               * words that are no clock or no sound table, or a list of
                               * deliveries that is not readable */
+#define SP_LOWER_LINE 33     /* a purge to a line below the one that the store holds */
+#define SP_BELOW_LINE 34     /* an entry below the store's purge line, for a key not held */
+#define SP_UNEQUAL_LINES 35  /* a merge of stores with different purge lines */
 
 /* The name of a refusal's number, as "BAD_KEY": for SP_REFUSAL(r), or the number of an ERR frame.
  * "none" for 0, and "unknown" for a number that this header does not have. */
@@ -84,6 +90,9 @@ static inline const char *sp_refusal_name(uint32_t number) {
     case SP_SELF: return "SELF";
     case SP_BAD_RING: return "BAD_RING";
     case SP_BAD_ARGUMENT: return "BAD_ARGUMENT";
+    case SP_LOWER_LINE: return "LOWER_LINE";
+    case SP_BELOW_LINE: return "BELOW_LINE";
+    case SP_UNEQUAL_LINES: return "UNEQUAL_LINES";
     default: return "unknown";
     }
 }
@@ -318,14 +327,20 @@ sp_result sp_write_err(uint32_t number, uint8_t *out, size_t out_len);
 
 /* A store of 1 to 100 slots is a buffer of exactly so many bytes: 16, and 596 for each slot. It
  * holds, in the order of the keys, at most one entry of each: the one above all others that were
- * offered and not refused. docs/FORMAT.md draws the bytes.
+ * offered and not refused, unless it was a tombstone that a purge removed. docs/FORMAT.md draws
+ * the bytes.
+ *
+ * A store also has a purge line, a time: 0 in a new store, and then that of its last purge, which
+ * removed the tombstones below it. An entry is below the line if its phys is. Such an entry is
+ * refused if its key is not held: it may be older than a tombstone that was removed. For a held
+ * key the line says nothing.
  *
  * Entries of a key go by their stamps, and those with one stamp by their contents: a tombstone is
  * above every value; of two values the one with the greater byte where they first differ is above,
  * or the longer one if it begins with the other. */
 #define SP_STORE_BYTES(slots) (16 + 596 * (size_t)(slots))
 
-/* Makes the buffer a store that holds nothing.
+/* Makes the buffer a store that holds nothing; its purge line is 0.
  *   SP_BAD_ARGUMENT     `slots` is not from 1 to 100
  *   SP_NO_ROOM          the buffer has not exactly SP_STORE_BYTES(slots) bytes */
 sp_result sp_store_create(uint8_t *store, size_t store_len, size_t slots);
@@ -369,17 +384,43 @@ sp_result sp_store_entry(const uint8_t *store, size_t store_len, size_t i, uint6
  *   SP_BAD_KEY          the key is not acceptable
  *   SP_VALUE_TOO_LARGE  the value has more than SP_VALUE_MAX bytes
  *   SP_BAD_ARGUMENT     `flag` is neither of the two, or a tombstone has a value
+ *   SP_BELOW_LINE       the key is not held, and `phys` is below the store's purge line
  *   SP_STORE_FULL       the key is not held, and no slot is free */
 sp_result sp_store_offer(uint8_t *store, size_t store_len, const uint8_t *key, size_t key_len,
                          const uint8_t *value, size_t value_len, uint32_t flag, uint64_t phys,
                          uint16_t logical, uint8_t node);
 
-/* Offers each entry of the giver to the receiver, all or none. The two may have different numbers
- * of slots.
+/* Offers each entry of the giver to the receiver, all or none, but passes over those that are
+ * below the purge line and of a key that the receiver does not hold; the answer is how many it
+ * passed over. The two may have different numbers of slots.
  *   SP_BAD_STORE        one of the two is not sound
- *   SP_STORE_FULL       the keys of both together are more than the receiver has slots */
+ *   SP_UNEQUAL_LINES    their purge lines differ
+ *   SP_STORE_FULL       the receiver's keys, with those that it would take, are more than it has
+ *                       slots */
 sp_result sp_store_merge(uint8_t *receiver, size_t receiver_len, const uint8_t *giver,
                          size_t giver_len);
+
+/* Writes the store's purge line, a time in milliseconds, to line[0].
+ *   SP_BAD_STORE        the store is not sound
+ *   SP_NO_ROOM          no word */
+sp_result sp_store_line(const uint8_t *store, size_t store_len, uint64_t *line, size_t line_len);
+
+/* Removes every tombstone whose phys is below `line`, and sets the store's purge line to it; the
+ * answer is how many it removed. Their slots take new keys; no value is removed.
+ *
+ * Purge all modules of a site to one line, after they have merged with each other and before
+ * anything else is written: then every tombstone that is removed has reached every module. Choose
+ * a line in the past, since a write below it is refused where its key is not held.
+ *
+ * A module that slept through a purge may still hold what was deleted elsewhere. If the line rose,
+ * merges with it are refused. Do not purge it by itself, since it would keep such values. Offer
+ * all its entries to a neighbour and look at what that refuses with SP_BELOW_LINE: such an entry
+ * was deleted, or never came, and is lost unless it is written anew. Then make its store anew, as
+ * a copy of the neighbour's bytes.
+ *   SP_BAD_STORE        the store is not sound
+ *   SP_BAD_TIME         `line` is out of range
+ *   SP_LOWER_LINE       `line` is below the store's purge line; it may be equal to it */
+sp_result sp_store_purge(uint8_t *store, size_t store_len, uint64_t line);
 
 /* ---- The request handler --------------------------------------------------------------- */
 
@@ -398,6 +439,8 @@ sp_result sp_store_merge(uint8_t *receiver, size_t receiver_len, const uint8_t *
  *   SP_CLOCK_SPENT      as sp_clock_send for PUT and DEL, and sp_clock_receive for REPL
  *   SP_OVERTAKEN        the stamp of a PUT or DEL is not above the one held for its key, whatever
  *                       it writes
+ *   SP_BELOW_LINE       the key of a PUT, DEL or REPL is not held, and the phys of its stamp is
+ *                       below the store's purge line
  *   SP_STORE_FULL       the key is not held, and no slot is free */
 sp_result sp_handle(uint8_t *store, size_t store_len, uint64_t *clock, size_t clock_len,
                     uint64_t now, const uint8_t *frame, size_t frame_len, uint8_t *reply,
@@ -413,7 +456,8 @@ sp_result sp_handle(uint8_t *store, size_t store_len, uint64_t *clock, size_t cl
  *
  * Of what a module is sent, keep the REPL frames that sp_handle answered with OK. A module's own
  * PUT and DEL, and what came by sp_store_offer or sp_store_merge, are in no such list: the report
- * is on the list alone, and the module may hold an entry above the winner. */
+ * is on the list alone. The module may hold an entry above the winner, or, after a purge, none
+ * where the winner is a tombstone. */
 
 /* The answer is the number of deliveries in the list, 0 to SP_DELIVERIES_MAX.
  *   SP_BAD_ARGUMENT     the list is not readable */

@@ -1,5 +1,6 @@
 -- The answers of the store's functions.
 use mathlib.Core.Path.{_≡_, refl, _∙_}
+use mathlib.Core.Bool.{true, false}
 use mathlib.Core.List.{List, []}
 use Prim.Native.Nat.{ℕ}
 use native.Mathlib.Omega.{arith}
@@ -7,6 +8,7 @@ use lib.ListN.{length}
 use Rattle.entry.specs.declared.Refusal.{Refusal}
 use Rattle.entry.specs.declared.Stamp.{Stamp}
 use Rattle.entry.specs.Refusal.{number}
+use Rattle.image.specs.Image.{sound}
 use Rattle.store.specs.Lookup.{Finding, value, deleted, never, refused, lookupAnswer}
 use Rattle.store.specs.declared.Listed.{Listed}
 use Rattle.store.specs.declared.Listed.the-variants as listed
@@ -14,8 +16,8 @@ use Rattle.store.specs.Listing.{listingOf, entryAnswer}
 use Rattle.frame.specs.Writing.{writeRefusal, afterWrite}
 use Rattle.capi_words.specs.Result.{packed}
 use Rattle.capi.specs.Frame.{replWords}
-use Rattle.capi.specs.Store.{lookRefusal, lookNumber, placeWords, placeRefusal, foundNumber, lookupWord, listRefusal, listWords}
-use Rattle.capi_words.proofs.Fronts.{Puts, not-none, none, front-refused}
+use Rattle.capi.specs.Store.{lookRefusal, lookNumber, placeWords, placeRefusal, foundNumber, lookupWord, listRefusal, listWords, lineRefusal, lineWords}
+use Rattle.capi_words.proofs.Fronts.{Puts, not-none, none, front-refused, front-refused-by}
 
 pub two-words : (f : Finding) → length (placeWords f) ≡ 2
 two-words (value at len) = refl
@@ -51,3 +53,14 @@ module _ (s : List ℕ) (i : ℕ) (lent : List ℕ) (o : Listed) (is : listingOf
   pub entry-put : (ka kl va vl flag : ℕ) (stamp : Stamp) → o ≡ listed.Entry ka kl va vl flag stamp → (words : List ℕ) → words ≡ replWords ka kl va vl flag stamp
       → (r : ℕ) (after : List ℕ) → Puts 0 words lent r after → EntryPut r after
   entry-put ka kl va vl flag stamp e words w r after p = rw (← is, e) (rw w at p)
+
+-- ---- the purge line
+module _ (s lent : List ℕ) where
+  abbrev LinePut : ℕ → List ℕ → Type 0
+  LinePut r after = Puts (lineRefusal s) (lineWords s) lent r after
+
+  pub line-unsound : sound s ≡ false → (r : ℕ) → r ≡ packed 5 0 → LinePut r lent
+  line-unsound h r e = rw h (front-refused-by 5 (lineWords s) lent r refl e)
+
+  pub line-put : sound s ≡ true → (words : List ℕ) → words ≡ lineWords s → (r : ℕ) (after : List ℕ) → Puts 0 words lent r after → LinePut r after
+  line-put h words w r after p = rw h (rw w at p)

@@ -12,6 +12,7 @@ use Rattle.frame.specs.Message.{Message, messageRefusal, keyOf, valueOf}
 use Rattle.frame.specs.Layout.{maxFrame, frameOf}
 use Rattle.frame.specs.Reading.{message, readAnswer, readFrame}
 use Rattle.frame.specs.Writing.{Answer as Wrote, writeRefusal, writeAnswer}
+use Rattle.image.specs.Layout.{mostSlots}
 use Rattle.image.specs.Image.{entriesOf, sound}
 use Rattle.store.specs.Answer.{Answer as Offered}
 use Rattle.store.specs.Create.{createRefusal}
@@ -19,12 +20,14 @@ use Rattle.store.specs.Lookup.{lookupAnswer, valuePart}
 use Rattle.store.specs.Listing.{nth, entryAnswer}
 use Rattle.store.specs.Offer.{offerAnswer}
 use Rattle.store.specs.Merge.{mergeAnswer}
+use Rattle.store.specs.Purge.{purgeAnswer}
 use Rattle.capi_words.specs.Words.{word}
 use Rattle.capi_words.specs.Meaning.{TakenApart, Alone, PutKeeps}
 use Rattle.capi.specs.Words.{clockWords, isClock, clockOf}
 use Rattle.capi.specs.Clock.{stepRefusal, stepWords}
 use Rattle.capi.specs.Frame.{bytesIn, writeWord, readRefusal, readWords}
 use Rattle.capi.specs.Store.{storeRefusal, storeNumber, storeWord, placeWords, placeRefusal, foundNumber, lookupWord, listRefusal, listWords}
+use Rattle.capi.specs.Store.{lineRefusal, lineWords}
 use Rattle.capi.specs.Handle.{handleRefusal, handleLength, handleWord, handleStore, handleClock}
 
 -- ---- results
@@ -37,12 +40,17 @@ pub record ResultsTakenApart : Type 0 where
   pub frame-read : (frame w : List ℕ) → Alone (writeRefusal (readRefusal (readAnswer frame)) (readWords (readAnswer frame)) w)
   pub store-create : (store : List ℕ) (slots : ℕ) → Alone (createRefusal store slots)
   pub store-entry : (store : List ℕ) (i : ℕ) (w : List ℕ) → Alone (writeRefusal (listRefusal (entryAnswer store i)) (listWords (entryAnswer store i)) w)
-  -- with one: a frame's length, what became of a lookup, an offer and a merge, a reply's length
+  pub store-line : (store w : List ℕ) → Alone (writeRefusal (lineRefusal store) (lineWords store) w)
+  -- with one: a frame's length, what became of a lookup and an offer, how many entries a merge passed
+  -- over and a purge removed, a reply's length
   pub write : (m : Message) (out : List ℕ) → let a : Wrote = writeAnswer (messageRefusal m) (frameOf m) out in
       TakenApart (writeWord m out) (writeRefusal (messageRefusal m) (frameOf m) out) (bytesIn a) maxFrame
   pub store-lookup : (store key place : List ℕ) → TakenApart (lookupWord store key place) (placeRefusal store key place) (foundNumber store key place) 2
   pub store-offer : (store : List ℕ) (e : Entry) → let a : Offered = offerAnswer store e in TakenApart (storeWord a) (storeRefusal a) (storeNumber a) 2
-  pub store-merge : (receiver giver : List ℕ) → let a : Offered = mergeAnswer receiver giver in TakenApart (storeWord a) (storeRefusal a) (storeNumber a) 0
+  pub store-merge : (receiver giver : List ℕ) → let a : Offered = mergeAnswer receiver giver in
+      TakenApart (storeWord a) (storeRefusal a) (storeNumber a) mostSlots
+  pub store-purge : (store : List ℕ) (line : ℕ) → let a : Offered = purgeAnswer store line in
+      TakenApart (storeWord a) (storeRefusal a) (storeNumber a) mostSlots
   pub handle : (store w : List ℕ) (time : ℕ) (frame reply : List ℕ)
       → TakenApart (handleWord store w time frame reply) (handleRefusal store w time frame reply) (handleLength store w time frame reply) maxFrame
 

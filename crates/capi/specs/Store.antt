@@ -3,27 +3,31 @@ use Prim.Native.Nat.{ℕ}
 use mathlib.Core.Bool.{cond}
 use mathlib.Core.List.{List, [], _∷_}
 use lib.Dec.{eqb}
-use Rattle.store.specs.Answer.{Answer, stored, replaced, kept, merged, refused}
+use Rattle.image.specs.Image.{lineOf, sound}
+use Rattle.store.specs.Answer.{Answer, stored, replaced, kept, merged, purged, refused}
 use Rattle.store.specs.Lookup.{Finding, value, deleted, never, refused as notLooked, lookupAnswer}
 use Rattle.store.specs.Listing.{Listing, entry, refused as notListed}
 use Rattle.frame.specs.Writing.{writeRefusal}
 use Rattle.capi_words.specs.Result.{packed}
 use Rattle.capi.specs.Frame.{replWords}
 
--- the refusal of an offer or a merge, or 0
+-- the refusal of an offer, a merge or a purge, or 0
 abbrev pub storeRefusal : Answer → ℕ
 storeRefusal stored = 0
 storeRefusal replaced = 0
 storeRefusal kept = 0
-storeRefusal merged = 0
+storeRefusal (merged n) = 0
+storeRefusal (purged n) = 0
 storeRefusal (refused n) = n
 
--- STORED 0, REPLACED 1, KEPT 2 (R242)
+-- STORED 0, REPLACED 1, KEPT 2; of a merge how many entries were passed over, and of a purge how many
+-- were removed (R242, R259, R260)
 abbrev pub storeNumber : Answer → ℕ
 storeNumber stored = 0
 storeNumber replaced = 1
 storeNumber kept = 2
-storeNumber merged = 0
+storeNumber (merged n) = n
+storeNumber (purged n) = n
 storeNumber (refused n) = 0
 
 abbrev pub storeWord : Answer → ℕ
@@ -70,3 +74,10 @@ listRefusal (notListed n) = n
 abbrev pub listWords : Listing → List ℕ
 listWords (entry ka kl va vl flag stamp) = replWords ka kl va vl flag stamp
 listWords (notListed n) = []
+
+-- the refusal of a store whose purge line is asked for, or 0; and the line as one word (R267)
+abbrev pub lineRefusal : List ℕ → ℕ
+lineRefusal store = cond (sound store) 0 5
+
+abbrev pub lineWords : List ℕ → List ℕ
+lineWords store = lineOf store ∷ []

@@ -17,6 +17,7 @@ use result::found;
 use result::looked;
 use result::merged;
 use result::offered;
+use result::purged;
 use result::received;
 use result::replied;
 use result::sent;
@@ -42,12 +43,13 @@ ghost use Rattle.store.specs.Lookup.{findingOf, lookupAnswer};
 ghost use Rattle.store.specs.Listing.{entryAnswer};
 ghost use Rattle.store.specs.Offer.{offerAnswer, afterOffer};
 ghost use Rattle.store.specs.Merge.{mergeAnswer, afterMerge};
+ghost use Rattle.store.specs.Purge.{purgeAnswer, afterPurge};
 ghost use Rattle.capi_words.specs.Result.{packed, flag as flagOf};
 ghost use Rattle.capi.specs.Words.{clockWords, stampFrom};
 ghost use Rattle.capi.specs.Clock.{stepRefusal, stepWords};
 ghost use Rattle.capi.specs.Handle.{handleWord, handleStore, handleClock, handleReply};
 ghost use Rattle.capi.specs.Frame.{readRefusal, readWords, writeWord, writeBytes};
-ghost use Rattle.capi.specs.Store.{storeWord, lookRefusal, placeWords, lookupWord, listRefusal, listWords};
+ghost use Rattle.capi.specs.Store.{storeWord, lookRefusal, placeWords, lookupWord, listRefusal, listWords, lineRefusal, lineWords};
 
 // ---- Checksums
 
@@ -304,13 +306,35 @@ pub extern "C" fn sp_store_offer(
     offered(store::offer(store, key, value, byte_of(flag), stamp))
 }
 
-// Offers each of the giver's entries to the receiver, all or none.
+// Offers each of the giver's entries to the receiver, all or none; says how many were passed over.
 #[no_mangle]
 pub extern "C" fn sp_store_merge(receiver: &mut [u8], giver: &[u8]) -> u32
     ensures told { λ r. ⌜ r ≡ storeWord (mergeAnswer (now (receiver .entry)) (now (giver .entry))) ⌝ }
     ensures left { λ _. ⌜ now (receiver .exit) ≡ afterMerge (now (receiver .entry)) (now (giver .entry)) ⌝ }
 {
     merged(store::merge(receiver, giver))
+}
+
+// The store's purge line, written to the first word.
+#[no_mangle]
+pub extern "C" fn sp_store_line(store: &[u8], line: &mut [u64]) -> u32
+    ensures told { λ r. ⌜ r ≡ packed (writeRefusal (lineRefusal (now (store .entry))) (lineWords (now (store .entry))) (now (line .entry))) 0 ⌝ }
+    ensures left { λ _. ⌜ now (line .exit) ≡ afterWrite (lineRefusal (now (store .entry))) (lineWords (now (store .entry))) (now (line .entry)) ⌝ }
+{
+    if !image::is_sound(store) {
+        return refused(Refusal::BadStore);
+    }
+    let words = [image::purge_line(store)];
+    put_front(line, &words)
+}
+
+// Removes the tombstones below the line, and sets the line; says how many were removed.
+#[no_mangle]
+pub extern "C" fn sp_store_purge(store: &mut [u8], line: u64) -> u32
+    ensures told { λ r. ⌜ r ≡ storeWord (purgeAnswer (now (store .entry)) line) ⌝ }
+    ensures left { λ _. ⌜ now (store .exit) ≡ afterPurge (now (store .entry)) line ⌝ }
+{
+    purged(store::purge(store, line))
 }
 
 // ---- The request handler

@@ -8,18 +8,19 @@ use store::Created;
 use store::Looked;
 use store::Merged;
 use store::Offered;
+use store::Purged;
 ghost use mathlib.Core.Path.{_≡_};
 ghost use Prim.Native.Nat.{_<_};
 ghost use Rattle.clock.specs.Answer.{sendMeaning, receiveMeaning};
 ghost use Rattle.frame.specs.Writing.{answerOf};
 ghost use Rattle.store.specs.Create.{createdNumber};
 ghost use Rattle.store.specs.Lookup.{findingOf};
-ghost use Rattle.store.specs.Answer.{answerOf as offerMeaning, mergeAnswerOf};
+ghost use Rattle.store.specs.Answer.{answerOf as offerMeaning, mergeAnswerOf, purgeAnswerOf};
 ghost use Rattle.node.specs.Answer.{replyNumber};
 ghost use Rattle.capi_words.specs.Result.{packed};
 ghost use Rattle.capi.specs.Clock.{sendRefusal};
 ghost use Rattle.capi.specs.Frame.{bytesIn, wroteWord};
-ghost use Rattle.capi.specs.Store.{storeWord, lookRefusal, lookNumber};
+ghost use Rattle.capi.specs.Store.{storeNumber, storeWord, lookRefusal, lookNumber};
 
 pub(crate) fn sent(answer: SendAnswer) -> u32
     ensures { λ r. ⌜ r ≡ packed (sendRefusal (sendMeaning answer)) 0 ⌝ }
@@ -70,11 +71,22 @@ pub(crate) fn offered(answer: Offered) -> u32
 }
 
 pub(crate) fn merged(answer: Merged) -> u32
+    requires { ⌜ storeNumber (mergeAnswerOf answer) < 65536 ⌝ }
     ensures { λ r. ⌜ r ≡ storeWord (mergeAnswerOf answer) ⌝ }
 {
     match answer {
-        Merged::Done => 0,
+        Merged::Done(n) => n as u32,
         Merged::Refused(why) => refused(why),
+    }
+}
+
+pub(crate) fn purged(answer: Purged) -> u32
+    requires { ⌜ storeNumber (purgeAnswerOf answer) < 65536 ⌝ }
+    ensures { λ r. ⌜ r ≡ storeWord (purgeAnswerOf answer) ⌝ }
+{
+    match answer {
+        Purged::Done(n) => n as u32,
+        Purged::Refused(why) => refused(why),
     }
 }
 

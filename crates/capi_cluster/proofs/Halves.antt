@@ -1,11 +1,11 @@
 -- The halves of every result.
 use mathlib.Core.Bool.{Bool, cond, not, _||_}
 use mathlib.Core.List.{List}
-use Prim.Native.Nat.{ℕ, _*_, _≤_}
+use Prim.Native.Nat.{ℕ, _*_}
 use native.Mathlib.Omega.{arith}
 use lib.ListN.{length}
 use lib.Dec.{leb, ltb}
-use Rattle.entry.specs.Refusal.{lastNumber}
+use Rattle.entry.specs.declared.Refusal.the-variants as refusal
 use Rattle.entry.specs.Key.{badKey}
 use Rattle.entry.specs.Entry.{badTime}
 use Rattle.peers.specs.declared.Row.{Row}
@@ -19,83 +19,90 @@ use Rattle.ring.specs.Build.{badArguments, buildAnswer}
 use Rattle.ring.specs.Sound.{soundRing}
 use Rattle.ring.specs.Walk.{admittedWithPlace}
 use Rattle.ring.specs.Owners.{badRequest, ownersAnswer}
-use Rattle.capi_words.proofs.Halves.{taken, alone, both, most, write-most}
+use Rattle.capi_words.specs.Meaning.{Told}
+use Rattle.capi_words.proofs.Halves.{taken, alone, tells-none, tells, both, tells-both, tells-write}
 use Rattle.capi_cluster.specs.Words.{isTable, tableOf}
 use Rattle.capi_cluster.specs.Peers.{eventRefusal}
 use Rattle.capi_cluster.specs.Ring.{refusalIn, admissionOf, badForm, ownersRefusal}
 use Rattle.capi_cluster.specs.Meaning.{ClusterResultsTakenApart}
 use Rattle.capi_cluster.proofs.Rings.{built-most}
 
--- ---- no refusal is above the last number
+-- ---- what is told is 0 or a number
 -- an event of the peer table
-event-most : (time : ℕ) (answer : PeerTable → ℕ) (w : List ℕ) → ((t : PeerTable) → answer t ≤ lastNumber) → eventRefusal time answer w ≤ lastNumber
+tells-event : (time : ℕ) (answer : PeerTable → ℕ) (w : List ℕ) → ((t : PeerTable) → Told (answer t)) → Told (eventRefusal time answer w)
 unfolding eventRefusal
-event-most time answer w h = most (badTime time) 9 _ (omega arith) (most (isTable w) _ 17 (h (tableOf w)) (omega arith))
+tells-event time answer w h =
+    tells-both (badTime time) 9 _ (tells refusal.BadTime) (tells-both (isTable w) _ 17 (h (tableOf w)) (tells refusal.BadArgument))
 
-fresh-most : (now : ℕ) → freshAnswer now ≤ lastNumber
+tells-fresh : (now : ℕ) → Told (freshAnswer now)
 unfolding freshAnswer
-fresh-most now = most (badTime now) 9 0 (omega arith) (omega arith)
+tells-fresh now = tells-both (badTime now) 9 0 (tells refusal.BadTime) tells-none
 
-add-most : (i now : ℕ) (t : PeerTable) → addAnswer i now t ≤ lastNumber
+tells-add : (i now : ℕ) (t : PeerTable) → Told (addAnswer i now t)
 unfolding addAnswer
-add-most i now t =
-    most (badTime now) 9 _ (omega arith)
-    (most (not (soundTable t)) 17 _ (omega arith)
-    (most (hasRow i (rowsOf t)) 14 _ (omega arith)
-    (most (leb 10 (t .count)) 13 0 (omega arith) (omega arith))))
+tells-add i now t =
+    tells-both (badTime now) 9 _ (tells refusal.BadTime)
+    (tells-both (not (soundTable t)) 17 _ (tells refusal.BadArgument)
+    (tells-both (hasRow i (rowsOf t)) 14 _ (tells refusal.PeerKnown)
+    (tells-both (leb 10 (t .count)) 13 0 (tells refusal.TableFull) tells-none)))
 
-row-most : (i n : ℕ) (rows : List Row) → rowAnswer i n rows ≤ lastNumber
+tells-row : (i n : ℕ) (rows : List Row) → Told (rowAnswer i n rows)
 unfolding rowAnswer
-row-most i n rows =
-    most (isOwn i rows) 15 _ (omega arith)
-    (most (not (hasRow i rows)) 11 _ (omega arith)
-    (most (ltb n (heldIncarnation i rows)) 12 0 (omega arith) (omega arith)))
+tells-row i n rows =
+    tells-both (isOwn i rows) 15 _ (tells refusal.OwnPeer)
+    (tells-both (not (hasRow i rows)) 11 _ (tells refusal.UnknownPeer)
+    (tells-both (ltb n (heldIncarnation i rows)) 12 0 (tells refusal.Stale) tells-none))
 
-heard-most : (i n now : ℕ) (t : PeerTable) → heardAnswer i n now t ≤ lastNumber
+tells-heard : (i n now : ℕ) (t : PeerTable) → Told (heardAnswer i n now t)
 unfolding heardAnswer
-heard-most i n now t = most (badTime now) 9 _ (omega arith) (most (not (soundTable t)) 17 _ (omega arith) (row-most i n (rowsOf t)))
+tells-heard i n now t =
+    tells-both (badTime now) 9 _ (tells refusal.BadTime) (tells-both (not (soundTable t)) 17 _ (tells refusal.BadArgument) (tells-row i n (rowsOf t)))
 
-reported-most : (i s n now : ℕ) (t : PeerTable) → reportedAnswer i s n now t ≤ lastNumber
+tells-reported : (i s n now : ℕ) (t : PeerTable) → Told (reportedAnswer i s n now t)
 unfolding reportedAnswer
-reported-most i s n now t = most (badTime now) 9 _ (omega arith) (most (ltb 2 s || not (soundTable t)) 17 _ (omega arith) (row-most i n (rowsOf t)))
+tells-reported i s n now t =
+    tells-both (badTime now) 9 _ (tells refusal.BadTime)
+    (tells-both (ltb 2 s || not (soundTable t)) 17 _ (tells refusal.BadArgument) (tells-row i n (rowsOf t)))
 
-tick-most : (now : ℕ) (t : PeerTable) → tickAnswer now t ≤ lastNumber
+tells-tick : (now : ℕ) (t : PeerTable) → Told (tickAnswer now t)
 unfolding tickAnswer
-tick-most now t = most (badTime now) 9 _ (omega arith) (most (not (soundTable t)) 17 0 (omega arith) (omega arith))
+tells-tick now t = tells-both (badTime now) 9 _ (tells refusal.BadTime) (tells-both (not (soundTable t)) 17 0 (tells refusal.BadArgument) tells-none)
 
 -- the ring's answers
-given-most : (b : Bool) (x y : Answer) → refusalIn x ≤ lastNumber → refusalIn y ≤ lastNumber → refusalIn (cond b x y) ≤ lastNumber
-given-most b x y p q = both (λ a. refusalIn a ≤ lastNumber) b x y p q
+tells-given : (b : Bool) (x y : Answer) → Told (refusalIn x) → Told (refusalIn y) → Told (refusalIn (cond b x y))
+tells-given b x y p q = both (λ a. Told (refusalIn a)) b x y p q
 
-position-most : (key : List ℕ) (salt : ℕ) → refusalIn (positionAnswer key salt) ≤ lastNumber
+tells-position : (key : List ℕ) (salt : ℕ) → Told (refusalIn (positionAnswer key salt))
 unfolding positionAnswer
-position-most key salt = given-most (badKey key) _ _ (omega arith) (omega arith)
+tells-position key salt = tells-given (badKey key) _ _ (tells refusal.BadKey) tells-none
 
-build-most : (ids : List ℕ) (v : ℕ) (ring : List ℕ) → refusalIn (buildAnswer ids v ring) ≤ lastNumber
+tells-build : (ids : List ℕ) (v : ℕ) (ring : List ℕ) → Told (refusalIn (buildAnswer ids v ring))
 unfolding buildAnswer
-build-most ids v ring = given-most (badArguments ids v) _ _ (omega arith) (given-most (ltb (length ring) (length ids * v)) _ _ (omega arith) (omega arith))
+tells-build ids v ring =
+    tells-given (badArguments ids v) _ _ (tells refusal.BadArgument)
+    (tells-given (ltb (length ring) (length ids * v)) _ _ (tells refusal.NoRoom) tells-none)
 
-owners-most : (ring w : List ℕ) (admission count : ℕ) (out : List ℕ) → ownersRefusal ring w admission count out ≤ lastNumber
+tells-owners : (ring w : List ℕ) (admission count : ℕ) (out : List ℕ) → Told (ownersRefusal ring w admission count out)
 unfolding ownersRefusal ownersAnswer
-owners-most ring w admission count out =
+tells-owners ring w admission count out =
     let peers = tableOf w in
     let who = admissionOf admission in
-    most (badForm admission w) 17 _ (omega arith)
-    (given-most (badRequest peers count) _ _ (omega arith)
-    (given-most (not (soundRing ring)) _ _ (omega arith)
-    (given-most (ltb (admittedWithPlace (admits who peers) ring) count) _ _ (omega arith)
-    (given-most (ltb (length out) count) _ _ (omega arith) (omega arith)))))
+    tells-both (badForm admission w) 17 _ (tells refusal.BadArgument)
+    (tells-given (badRequest peers count) _ _ (tells refusal.BadArgument)
+    (tells-given (not (soundRing ring)) _ _ (tells refusal.BadRing)
+    (tells-given (ltb (admittedWithPlace (admits who peers) ring) count) _ _ (tells refusal.TooFew)
+    (tells-given (ltb (length out) count) _ _ (tells refusal.NoRoom) tells-none))))
 
 -- ---- every result
 pub cluster-results-taken-apart : ClusterResultsTakenApart
 cluster-results-taken-apart =
     record {
-      peers-fresh = λ i a p n now w. alone _ (write-most (freshAnswer now) _ w (fresh-most now));
-      peers-add = λ i now w. alone _ (event-most now (addAnswer i now) w (add-most i now));
-      peers-heard = λ i n now w. alone _ (event-most now (heardAnswer i n now) w (heard-most i n now));
-      peers-reported = λ i s n now w. alone _ (event-most now (reportedAnswer i s n now) w (reported-most i s n now));
-      peers-tick = λ now w. alone _ (event-most now (tickAnswer now) w (tick-most now));
-      key-position = λ key salt w. alone _ (write-most (refusalIn (positionAnswer key salt)) _ w (position-most key salt));
-      owners = λ ring w admission count out. alone _ (owners-most ring w admission count out);
-      ring-build = λ ids v ring. taken _ _ _ (build-most ids v ring) (built-most ids v ring) (omega arith);
+      peers-fresh = λ i a p n now w. alone _ (tells-write (freshAnswer now) _ w (tells-fresh now));
+      peers-add = λ i now w. alone _ (tells-event now (addAnswer i now) w (tells-add i now));
+      peers-heard = λ i n now w. alone _ (tells-event now (heardAnswer i n now) w (tells-heard i n now));
+      peers-reported = λ i s n now w. alone _ (tells-event now (reportedAnswer i s n now) w (tells-reported i s n now));
+      peers-tick = λ now w. alone _ (tells-event now (tickAnswer now) w (tells-tick now));
+      key-position = λ key salt w. alone _ (tells-write (refusalIn (positionAnswer key salt)) _ w (tells-position key salt));
+      owners = λ ring w admission count out. alone _ (tells-owners ring w admission count out);
+      ring-build = λ ids v ring. taken _ _ _ (tells-build ids v ring) (built-most ids v ring) (omega arith);
     }

@@ -1,12 +1,14 @@
 -- The cases of each step.
-use mathlib.Core.Path.{_≡_}
+use mathlib.Core.Path.{_≡_, sym}
 use mathlib.Core.Logic.{inl, inr}
 use mathlib.Core.Bool.{_||_}
 use Prim.Native.Nat.{ℕ, _+_, _≤_, _<_, _^_, max}
 use native.Mathlib.Omega.{arith}
-use lib.Dec.{ltb, leb}
-use borrow.Author.Tests.{lt-ltb, le-ltb, le-leb, lt-leb}
+use lib.Dec.{ltb, leb, eqb}
+use borrow.Author.Tests.{lt-ltb, le-ltb, le-leb, lt-leb, eqb-true, eqb-false}
 use Rattle.wire.proofs.Tests.{test}
+use Rattle.entry.specs.declared.Refusal.the-variants as refusal
+use Rattle.entry.specs.Refusal.{Numbered}
 use Rattle.entry.specs.Entry.{badTime}
 use Rattle.clock.specs.declared.Clock.{Clock}
 use Rattle.clock.specs.Clock.{Stepped, next, refused, raise, withSkew, sendStep, receiveInRange, receiveStep}
@@ -66,6 +68,12 @@ module _ (c : Clock) (p l now : ℕ) where
 abbrev pub StepNumbered : Stepped → Type 0
 StepNumbered (next d) = Unit {0}
 StepNumbered (refused n) = (8 ≤ n) × (n ≤ 9)
+
+pub step-numbered : (n : ℕ) → (8 ≤ n) × (n ≤ 9) → Numbered n
+step-numbered n h = elim (test (eqb n 8)) [
+  | inl p ↦ (refusal.ClockSpent, sym (eqb-true n 8 p))
+  | inr p ↦ let ne : n ≡ 8 → ⊥ = eqb-false n 8 p in (refusal.BadTime, omega (arith, h .0, h .1, ne))
+]
 
 raise-numbered : (c : Clock) (p l : ℕ) → StepNumbered (raise c p l)
 unfolding raise

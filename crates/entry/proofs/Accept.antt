@@ -10,7 +10,7 @@ use lib.Dec.{ltb, leb, eqb}
 use borrow.Author.Tests.{lt-ltb, le-ltb, ltb-false, eq-eqb, ne-eqb, eqb-false, le-leb, lt-leb, leb-false}
 use Rattle.wire.proofs.Tests.{or-false}
 use Rattle.entry.specs.Key.{reserved, badKey}
-use Rattle.entry.specs.Entry.{Entry, badFlag, refusalOf}
+use Rattle.entry.specs.Entry.{Entry, badTime, badFlag, refusalOf}
 
 -- of a run of tests, the first that is passed
 pub or-first : (a b : Bool) → a ≡ true → (a || b) ≡ true
@@ -117,3 +117,15 @@ accepted e h =
       flag = ltb-false 1 _ (f .0);
       tombstone = λ o. empty (e .value) (ltb-false 0 _ (rw (eq-eqb (e .flag) 1 o) at (f .1)));
     }
+
+-- no check of an entry has a number above 17
+pub refusal-at-most : (e : Entry) → refusalOf e ≤ 17
+unfolding refusalOf
+refusal-at-most e = go (badTime (e .stamp .phys)) (badKey (e .key)) (ltb 512 (length (e .value))) (badFlag e)
+  where
+    go : (a b c d : Bool) → cond {A = ℕ} a 9 (cond b 1 (cond c 2 (cond d 17 0))) ≤ 17
+    go true b c d = omega arith
+    go false true c d = omega arith
+    go false false true d = omega arith
+    go false false false true = omega arith
+    go false false false false = omega arith

@@ -1,13 +1,13 @@
 -- Which of two entries of a key wins: the laws that the store, its history and the report use.
 -- Nothing outside this file opens `beats` or `contentBelow`.
-use Prim.Native.Nat.{ℕ, _<_}
+use Prim.Native.Nat.{ℕ, _≤_, _<_}
 use native.Mathlib.Omega.{arith}
 use mathlib.Core.Path.{_≡_, refl, sym, ap, ap₂, _∙_}
 use mathlib.Core.Logic.{_⊎_, inl, inr}
 use mathlib.Core.Bool.{Bool, true, false}
 use mathlib.Core.List.{List, []}
 use lib.Dec.{ltb, eqb}
-use borrow.Author.Tests.{eqb-true, eqb-false, ne-eqb}
+use borrow.Author.Tests.{ltb-true, ltb-false, eqb-true, eqb-false, ne-eqb}
 use Rattle.wire.specs.Order.{bytesBelow}
 use Rattle.wire.proofs.Tests.{test, clash}
 use Rattle.wire.proofs.Order.{lex, lex-true, lex-less, lex-same, lex-weak, lex-asym, lex-tied, bytesBelow-irrefl, bytesBelow-trans, bytesBelow-tied}
@@ -16,6 +16,7 @@ use Rattle.entry.specs.Order.{stampBelow}
 use Rattle.entry.specs.Entry.{Entry, entryOf, contentBelow, beats}
 use Rattle.entry.specs.Meaning.{StrictTotal, EntriesStrictlyOrdered, EntryOrderByField, EqualStamps}
 use Rattle.entry.proofs.Order.{keys-strictly-ordered, stampBelow-asym, stampBelow-irrefl, stampBelow-trans, stampBelow-tied}
+use Rattle.entry.proofs.Order.{stamp-order-by-field}
 use Rattle.entry.proofs.Accept.{accepted}
 
 -- ---- the contents
@@ -125,6 +126,13 @@ beats-tied d e k p q =
     let s = stampBelow-tied (d .stamp) (e .stamp) (beats-stamp e d q) (beats-stamp d e p) in
     let t = content-tied d e (sym (at-equal e d (sym s)) ∙ q) (sym (at-equal d e s) ∙ p) in
     λ i. record { key = k i; value = t .1 i; flag = t .0 i; stamp = s i }
+
+-- an entry that beats another has no lower phys
+pub beats-phys : (e h : Entry) → beats e h ≡ true → h .stamp .phys ≤ e .stamp .phys
+beats-phys e h b = elim (test (ltb (e .stamp .phys) (h .stamp .phys))) [
+  | inl p ↦ clash (stamp-order-by-field (e .stamp) (h .stamp) .1 (inl (ltb-true _ _ p))) (beats-stamp h e (beats-asym e h b))
+  | inr p ↦ ltb-false _ _ p
+]
 
 pub entries-strictly-ordered : EntriesStrictlyOrdered
 entries-strictly-ordered = record { irreflexive = beats-irrefl; transitive = beats-trans; total = beats-tied }

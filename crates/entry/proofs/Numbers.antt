@@ -27,6 +27,9 @@ number-range refusal.PeerKnown = omega arith
 number-range refusal.OwnPeer = omega arith
 number-range refusal.BadRing = omega arith
 number-range refusal.BadArgument = omega arith
+number-range refusal.LowerLine = omega arith
+number-range refusal.BelowLine = omega arith
+number-range refusal.UnequalLines = omega arith
 
 pub number-not-zero : (r : Refusal) → number r ≡ 0 → ⊥
 number-not-zero r e = omega (arith, number-range r .0)

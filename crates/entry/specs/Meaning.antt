@@ -1,18 +1,18 @@
 -- What the refusal numbers and the orders mean.
-use Prim.Native.Nat.{_<_}
+use Prim.Native.Nat.{_≤_, _<_}
 use mathlib.Core.Path.{_≡_}
 use mathlib.Core.Logic.{_⊎_, _↔_}
 use mathlib.Core.Bool.{Bool, true, false}
 use Rattle.wire.specs.Order.{bytesBelow}
 use Rattle.entry.specs.declared.Refusal.{Refusal}
 use Rattle.entry.specs.declared.Stamp.{Stamp}
-use Rattle.entry.specs.Refusal.{number, Numbered}
+use Rattle.entry.specs.Refusal.{number, lastNumber}
 use Rattle.entry.specs.Order.{least, stampBelow, keyBelow}
 use Rattle.entry.specs.Entry.{Entry, Acceptable, beats}
 
 -- every refusal has a number from 1 to the last (R7, R168)
 abbrev pub NumberRange : Type 0
-NumberRange = (r : Refusal) → Numbered (number r)
+NumberRange = (r : Refusal) → (0 < number r) × (number r ≤ lastNumber)
 
 -- a strict total order, of keys and of stamps (R89, R108)
 pub record StrictTotal {A : Type 0} (below : A → A → Bool) : Type 0 where

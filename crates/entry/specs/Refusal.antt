@@ -1,5 +1,6 @@
 -- The refusal numbers. The rules' SELF is `OwnPeer` here.
-use Prim.Native.Nat.{ℕ, _≤_, _<_}
+use Prim.Native.Nat.{ℕ}
+use mathlib.Core.Path.{_≡_}
 use Rattle.entry.specs.declared.Refusal.{Refusal}
 use Rattle.entry.specs.declared.Refusal.the-variants as refusal
 
@@ -21,11 +22,14 @@ number refusal.PeerKnown = 14
 number refusal.OwnPeer = 15
 number refusal.BadRing = 16
 number refusal.BadArgument = 17
+number refusal.LowerLine = 33
+number refusal.BelowLine = 34
+number refusal.UnequalLines = 35
 
 -- the highest of them (R7)
 abbrev pub lastNumber : ℕ
-lastNumber = 17
+lastNumber = 35
 
--- from 1 to the last (R168)
+-- a number that a refusal has: there are gaps between them (R7, R168)
 abbrev pub Numbered : ℕ → Type 0
-Numbered n = (0 < n) × (n ≤ lastNumber)
+Numbered n = (r : Refusal) × (number r ≡ n)

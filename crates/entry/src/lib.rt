@@ -44,6 +44,12 @@ pub enum Refusal {
     OwnPeer,
     BadRing,
     BadArgument,
+    // a purge to a line below the held one
+    LowerLine,
+    // an entry below the purge line, for a key that is not held
+    BelowLine,
+    // a merge of stores with unequal lines
+    UnequalLines,
 }
 
 impl Refusal {
@@ -68,6 +74,9 @@ impl Refusal {
             Refusal::OwnPeer => 15,
             Refusal::BadRing => 16,
             Refusal::BadArgument => 17,
+            Refusal::LowerLine => 33,
+            Refusal::BelowLine => 34,
+            Refusal::UnequalLines => 35,
         }
     }
 }

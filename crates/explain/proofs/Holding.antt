@@ -21,8 +21,8 @@ use Rattle.image.specs.Layout.{mostSlots}
 use Rattle.image.specs.Image.{image, acceptable, allAcceptable, belowFirst, ascending}
 use Rattle.image.specs.Meaning.{AllFit}
 use Rattle.image.proofs.SlotLaws.{fits}
-use Rattle.image.proofs.ImageLaws.{sound-image, slots-of-image, entries-of-image}
-use Rattle.store.specs.Held.{put, find}
+use Rattle.image.proofs.ImageLaws.{sound-image, slots-of-image, line-of-image, entries-of-image}
+use Rattle.store.specs.Held.{put, find, belowLine}
 use Rattle.store.specs.Answer.{isRefused}
 use Rattle.store.specs.Create.{freshStore}
 use Rattle.store.specs.Offer.{told, offerAnswer, afterOffer}
@@ -67,13 +67,15 @@ module _ (C : ℕ) (lo : 1 ≤ C) (hi : C ≤ mostSlots) where
     each : allAcceptable hs ≡ true
     order : ascending hs ≡ true
 
-  offer-image : (hs : List Entry) (e : Entry) → Holds hs → Acceptable e → length (put e hs) ≤ C → afterOffer (image C hs) e ≡ image C (put e hs)
-  unfolding afterOffer offerAnswer
+  offer-image : (hs : List Entry) (e : Entry) → Holds hs → Acceptable e → length (put e hs) ≤ C → afterOffer (image C 0 hs) e ≡ image C 0 (put e hs)
+  unfolding afterOffer offerAnswer belowLine
   offer-image hs e h ok r = rw (
-    slots-of-image C hs (omega arith),
-    entries-of-image C hs (h .fit) (omega (arith, h .room)),
-    sound-image C hs lo hi (h .room) (h .fit) (h .each) (h .order),
+    slots-of-image C 0 hs (omega arith),
+    line-of-image C 0 hs (omega arith),
+    entries-of-image C 0 hs (h .fit) (omega (arith, h .room)),
+    sound-image C 0 hs lo hi (omega arith) (h .room) (h .fit) (h .each) (h .order),
     eq-eqb (refusalOf e) 0 ok,
+    le-ltb (e .stamp .phys) 0 (omega arith),
     le-ltb C (length (put e hs)) r,
     told-taken e (find (e .key) hs),
   )
@@ -89,8 +91,8 @@ module _ (C : ℕ) (lo : 1 ≤ C) (hi : C ≤ mostSlots) where
   -- ---- the best so far is held
   -- the store that holds it
   abbrev heldFor : Option Placed → List ℕ
-  heldFor none = image C []
-  heldFor (some w) = image C (w .entry ∷ [])
+  heldFor none = image C 0 []
+  heldFor (some w) = image C 0 (w .entry ∷ [])
 
   module _ (k : List ℕ) where
     -- it is an acceptable delivery of the key
@@ -112,10 +114,10 @@ module _ (C : ℕ) (lo : 1 ≤ C) (hi : C ≤ mostSlots) where
     offer-next (some w) i d f ok r p = elim (test (beats d (w .entry))) [
       | inl q ↦
           let e : put d (w .entry ∷ []) ≡ d ∷ [] = put-same d (w .entry) p (f .2) ∙ rw q in
-          rw (p, q) (offer-image (w .entry ∷ []) d (holds-one (w .entry) (f .0) (f .1)) ok (rw e lo) ∙ ap (image C) e, (ok, r, p))
+          rw (p, q) (offer-image (w .entry ∷ []) d (holds-one (w .entry) (f .0) (f .1)) ok (rw e lo) ∙ ap (image C 0) e, (ok, r, p))
       | inr q ↦
           let e : put d (w .entry ∷ []) ≡ w .entry ∷ [] = put-same d (w .entry) p (f .2) ∙ rw q in
-          rw (p, q) (offer-image (w .entry ∷ []) d (holds-one (w .entry) (f .0) (f .1)) ok (rw e lo) ∙ ap (image C) e, f)
+          rw (p, q) (offer-image (w .entry ∷ []) d (holds-one (w .entry) (f .0) (f .1)) ok (rw e lo) ∙ ap (image C 0) e, f)
     ]
 
     best-other : (o : Option Placed) (i : ℕ) (d : Entry) → isOf k d ≡ false → bestAfter k o i d ≡ o

@@ -58,7 +58,7 @@ heldAfter C k es = offeredAll (ofKey k es) (freshStore C)
 
 -- it is the image of just the winner, or fresh for NONE (R253)
 pub record WinnerHeld (list k out : List ℕ) (es : List Entry) (C : ℕ) : Type 0 where
-  pub winner : (i : ℕ) → explainAnswer list k out ≡ won i → (e : Entry) × (nth i es ≡ some e) × (heldAfter C k es ≡ image C (e ∷ []))
+  pub winner : (i : ℕ) → explainAnswer list k out ≡ won i → (e : Entry) × (nth i es ≡ some e) × (heldAfter C k es ≡ image C 0 (e ∷ []))
   pub no-delivery : explainAnswer list k out ≡ noDelivery → heldAfter C k es ≡ freshStore C
 
 abbrev pub WinnerIsHeld : Type 0

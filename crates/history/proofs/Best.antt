@@ -3,7 +3,7 @@
 use Prim.Native.Nat.{ℕ, _≤_}
 use mathlib.Core.Path.{_≡_, refl, sym, _∙_, ap}
 use mathlib.Core.Logic.{_⊎_, inl, inr, _↔_}
-use mathlib.Core.Bool.{Bool, true, false, cond, _&&_, and-true}
+use mathlib.Core.Bool.{Bool, true, false, _&&_, and-true}
 use mathlib.Core.List.{List, [], _∷_, _++_, List·Memᴰ·head as head, List·Memᴰ·tail as tail, List·Memᴰ·cases-cons as mem-cons, List·Memᴰ·not-nil as mem-nil}
 use mathlib.Core.Option.{Option, none, some, Option·none-ne-some, Option·some-injective}
 use lib.ListN.{length}
@@ -12,10 +12,9 @@ use Rattle.wire.proofs.Tests.{test, clash}
 use Rattle.wire.proofs.Order.{sameBytes-eq, sameBytes-refl}
 use Rattle.entry.specs.Entry.{Entry, beats}
 use Rattle.entry.proofs.EntryOrder.{beats-asym, beats-weak, beats-irrefl, beats-trans, beats-tied}
-use Rattle.store.specs.Held.{_∈_, put, putAll, find}
-use Rattle.store.specs.Unchecked.{isHeld}
-use Rattle.history.specs.Book.{hasKey, keyCount, beatsAll, Greatest}
-use Rattle.store.proofs.HeldLaws.{Ascending, put-ascending, putAll-ascending, better, join, find-put, find-putAll, find-mem}
+use Rattle.store.specs.Held.{_∈_, put, putAll, find, isHeld, better}
+use Rattle.history.specs.Book.{hasKey, keyCount, beatsAll, Greatest, best}
+use Rattle.store.proofs.HeldLaws.{Above, Ascending, put-ascending, putAll-ascending, join, find-put, find-putAll, find-mem}
 use Rattle.store.proofs.HeldLaws.{find-some, same-find, length-put, length-mono, some-of}
 
 -- the entries held after those of a list were offered, the last first
@@ -23,15 +22,21 @@ unfoldable pub held : List Entry → List Entry
 held [] = []
 held (d ∷ ds) = put d (held ds)
 
--- the entry of a key that wins
-unfoldable pub best : List ℕ → List Entry → Option Entry
-best k [] = none
-best k (d ∷ ds) = cond (sameBytes k (d .key)) (better d (best k ds)) (best k ds)
-
 pub held-ascending : (ds : List Entry) → Ascending (held ds)
 unfolding held
 held-ascending [] = tt
 held-ascending (d ∷ ds) = put-ascending d (held ds) (held-ascending ds)
+
+-- entries in key order are held as they are
+put-first : (e : Entry) (es : List Entry) → Above (e .key) es → put e es ≡ e ∷ es
+unfolding put
+put-first e [] a = refl
+put-first e (h ∷ hs) a = rw (a h (head refl))
+
+pub held-ascended : (es : List Entry) → Ascending es → held es ≡ es
+unfolding held
+held-ascended [] a = refl
+held-ascended (e ∷ es) a = rw (held-ascended es (a .1)) (put-first e es (a .0))
 
 pub find-held : (k : List ℕ) (ds : List Entry) → find k (held ds) ≡ best k ds
 unfolding held best find

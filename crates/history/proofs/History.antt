@@ -1,231 +1,223 @@
--- Demand 3, proved: an invariant between any world and any book, which fresh stores start and each
--- call keeps.
-use Prim.Native.Nat.{ℕ, _<_, _≤_}
+-- Demand 3 of fresh stores: the history from a start, where the start is a store that holds nothing
+-- and has the line 0, so that every entry is live.
+use Prim.Native.Nat.{ℕ, _≤_}
 use native.Mathlib.Omega.{arith}
 use mathlib.Core.Path.{_≡_, refl, sym, _∙_, ap, ap₂}
 use mathlib.Core.Logic.{inl, inr}
-use mathlib.Core.Bool.{true, false, cond, not}
-use mathlib.Core.List.{List, [], _∷_, _++_, List·Memᴰ·head as head, List·Memᴰ·cases-cons as mem-cons, List·Memᴰ·not-nil as mem-nil}
-use mathlib.Core.List.{List·Memᴰ·append-cases as mem-append}
-use mathlib.Core.Option.{Option, none, some}
-use lib.ListN.{length, set, length-set, length-replicate, getD-replicate}
-use lib.Seq.{getD-set-same, getD-set-other}
+use mathlib.Core.Bool.{true, false, cond}
+use mathlib.Core.List.{List, [], _∷_, _++_, List·Memᴰ·head as head, List·Memᴰ·tail as tail, List·Memᴰ·cases-cons as mem-cons, List·Memᴰ·not-nil as mem-nil}
+use lib.ListN.{replicate}
 use lib.Dec.{eqb}
-use borrow.Author.Tests.{eqb-true, eqb-false}
-use Rattle.wire.proofs.Tests.{test}
-use Rattle.entry.specs.Key.{badKey}
-use Rattle.entry.specs.Entry.{Entry, Acceptable}
-use Rattle.entry.proofs.Accept.{accepted}
-use Rattle.entry.proofs.EntryOrder.{beats-stamp}
+use borrow.Author.Tests.{le-ltb}
+use Rattle.wire.proofs.Tests.{test, clash}
+use Rattle.entry.specs.Entry.{Entry, Acceptable, refusalOf}
 use Rattle.image.specs.Layout.{mostSlots}
-use Rattle.image.specs.Image.{image, slotsOf, entriesOf, sound}
-use Rattle.image.specs.Meaning.{Fit}
-use Rattle.image.proofs.SlotLaws.{fits}
-use Rattle.image.proofs.ImageLaws.{sound-image, slots-of-image, entries-of-image}
-use Rattle.store.specs.Held.{_∈_, find, indexOf}
-use Rattle.store.specs.Answer.{stored, replaced, kept, isRefused}
+use Rattle.image.specs.Image.{image, slotsOf, lineOf, entriesOf, sound}
+use Rattle.store.specs.Held.{_∈_}
+use Rattle.store.specs.Answer.{Answer, stored, refused, isRefused}
 use Rattle.store.specs.Create.{freshStore}
-use Rattle.store.specs.Lookup.{findingFor, valueFor, lookupAnswer, valuePart, never}
-use Rattle.store.specs.Offer.{told, offerAnswer, afterOffer}
-use Rattle.store.specs.Merge.{mergeAnswer, afterMerge}
-use Rattle.store.specs.Unchecked.{isHeld}
-use Rattle.store.specs.Meaning.{Representable, Finds}
-use Rattle.history.specs.Book.{Call, offer, merge, hasKey, keyCount, beatsAll, Greatest, bookOffer, bookOffered, bookMerge, bookMerged, Book, delivered}
+use Rattle.store.proofs.Keeping.{fresh-keeps}
+use Rattle.history.specs.Book.{Call, offer, merge, keyCount, bookOffer, bookOffered, bookMerge, bookMerged, Book, delivered}
 use Rattle.history.specs.Book.{bookAnswer, bookAfter, runBook, bookAnswers, offers, InRange}
-use Rattle.history.specs.History.{Stores, store, answer, after, run, answers, fresh, noneDelivered, setAfter, DeliveryHistory, EveryDeliveryHistory}
-use Rattle.store.proofs.HeldLaws.{none-of}
-use Rattle.store.proofs.Members.{accept-all, fit-all, ascend}
-use Rattle.history.proofs.Best.{held, best, beatsBest, Within, held-ascending, find-held, held-append, hasKey-best, keyCount-held}
-use Rattle.history.proofs.Best.{beatsAll-best, greatest-best, held-greatest, held-mem, held-same, held-key, held-grows}
-use Rattle.history.proofs.BookLaws.{offer-accepted, merge-accepted, range-tail, offers-tail, range-append, offers-append, within-cons, within-append}
-use Rattle.history.proofs.BookLaws.{none-within, book-grows, book-accepts}
+use Rattle.history.specs.Events.{Event, call, Said, told, replied, Start, startOf, isLive, liveOffer, joins, liveOffered, liveMerge, liveMerged}
+use Rattle.history.specs.Events.{bookSaid, bookThen, bookRun, bookSays, brought, Given}
+use Rattle.history.specs.History.{Stores, store, answer, after, run, answers, fresh, noneDelivered, DeliveryHistory}
+use Rattle.history.specs.History.{RepresentableOffers, EveryDeliveryHistory}
+use Rattle.history.specs.AfterPurge.{said, afterEvent, runEvents, allSaid, copies, Accepts, HistoryFrom}
+use Rattle.history.proofs.Best.{Within}
+use Rattle.history.proofs.Live.{below, above-live, all-live}
+use Rattle.history.proofs.BookLaws.{Judged, turned, passed, taken, judged, copies-within, brought-tail, event-accepts, sets-within}
+use Rattle.history.proofs.AfterPurge.{history-from}
 
--- what the store tells of a success is what the book tells
-told-book : (e : Entry) (ds : List Entry)
-    → told e (find (e .key) (held ds)) ≡ cond (not (hasKey (e .key) ds)) stored (cond (beatsAll e ds) replaced kept)
-unfolding told isHeld beatsBest
-told-book e ds = rw (find-held (e .key) ds, hasKey-best (e .key) ds, beatsAll-best e ds) (go (best (e .key) ds))
-  where
-    go : (o : Option Entry) → told e o ≡ cond (not (isHeld o)) stored (cond (beatsBest e o) replaced kept)
-    go none = refl
-    go (some h) = refl
+-- ---- calls as events
+unfoldable eventsOf : List Call → List Event
+eventsOf [] = []
+eventsOf (c ∷ cs) = call c ∷ eventsOf cs
 
--- over some entries that hold all those offered
-module _ (C n : ℕ) (lo : 1 ≤ C) (hi : C ≤ mostSlots) (all : List Entry)
-    (rep : (e : Entry) → e ∈ all → Representable e) where
-  -- a store is the image of what is held of its set
-  pub record StoreAgrees (ds : List Entry) (bytes : List ℕ) : Type 0 where
-    pub is-image : bytes ≡ image C (held ds)
-    pub fits : keyCount ds ≤ C
-    pub acceptable : (e : Entry) → e ∈ ds → Acceptable e
-    pub known : Within ds all
+events-append : (xs ys : List Call) → eventsOf (xs ++ ys) ≡ eventsOf xs ++ eventsOf ys
+unfolding eventsOf
+events-append [] ys = refl
+events-append (x ∷ xs) ys = ap (λ (l : List Event). call x ∷ l) (events-append xs ys)
 
-  module _ {ds : List Entry} {bytes : List ℕ} (a : StoreAgrees ds bytes) where
-    few : length (held ds) ≤ C
-    few = rw keyCount-held at (a .fits)
+events-given : (n : ℕ) (cs : List Call) → InRange n cs → RepresentableOffers cs → Given n (eventsOf cs)
+unfolding eventsOf offers
+events-given n [] r f = tt
+events-given n (offer i e ∷ cs) r f = (r .0, f e (head refl), events-given n cs (r .1) (λ d m. f d (tail m)))
+events-given n (merge i j ∷ cs) r f = (r .0, r .1, events-given n cs (r .2) f)
 
-    fit-held : (e : Entry) → e ∈ held ds → Fit e
-    fit-held e m =
-        let k = held-mem ds m in
-        let r = rep e (a .known e k) in
-        fits e (a .acceptable e k) (r .logical) (r .node)
+events-bring : (cs : List Call) → brought (eventsOf cs) ≡ offers cs
+unfolding eventsOf brought offers
+events-bring [] = refl
+events-bring (offer i e ∷ cs) = ap (λ (l : List Entry). e ∷ l) (events-bring cs)
+events-bring (merge i j ∷ cs) = events-bring cs
 
-    is-sound : sound bytes ≡ true
-    is-sound =
-        rw (a .is-image) (sound-image C (held ds) lo hi few (fit-all (held ds) fit-held) (accept-all (held ds) (λ e m. a .acceptable e (held-mem ds m)))
-        (ascend (held ds) (held-ascending ds)))
+-- ---- answers as what is said
+unfoldable tell : List Answer → List Said
+tell [] = []
+tell (a ∷ l) = told a ∷ tell l
 
-    entries-are : entriesOf bytes ≡ held ds
-    entries-are = rw (a .is-image) (entries-of-image C (held ds) (fit-all (held ds) fit-held) (omega (arith, few)))
+heard : Said → Answer
+heard (told a) = a
+heard (replied c reply w n) = stored
 
-    slots-are : slotsOf bytes ≡ C
-    slots-are = rw (a .is-image) (slots-of-image C (held ds) (omega arith))
+unfoldable hear : List Said → List Answer
+hear [] = []
+hear (x ∷ l) = heard x ∷ hear l
 
-    offer-answer : (e : Entry) → offerAnswer bytes e ≡ bookOffer C ds e
-    unfolding offerAnswer bookOffer held
-    offer-answer e = rw (is-sound, entries-are, slots-are, told-book e ds, keyCount-held (e ∷ ds))
+hear-tell : (l : List Answer) → hear (tell l) ≡ l
+unfolding hear heard tell
+hear-tell [] = refl
+hear-tell (a ∷ l) = ap (λ (r : List Answer). a ∷ r) (hear-tell l)
 
-    offer-after : (e : Entry) → e ∈ all → StoreAgrees (bookOffered C ds e) (afterOffer bytes e)
-    unfolding afterOffer bookOffered held
-    offer-after e m = rw (offer-answer e) (elim (test (isRefused (bookOffer C ds e))) [
-      | inl p ↦ rw p a
-      | inr p ↦ rw (p, entries-are, slots-are)
-          (let ok = offer-accepted C ds e p in
-          record {
-            is-image = refl;
-            fits = ok .1;
-            acceptable = λ d k. elim (mem-cons k) [ inl q ↦ rw q (ok .0) | inr q ↦ a .acceptable d q ];
-            known = within-cons e ds m (a .known);
-          })
-    ])
+-- ---- the stores run the same
+run-events : (w : Stores) (cs : List Call) → runEvents w (eventsOf cs) ≡ run w cs
+unfolding runEvents run eventsOf afterEvent
+run-events w [] = refl
+run-events w (c ∷ cs) = run-events (after w c) cs
 
-    -- what is looked up
-    look-is : (k : List ℕ) → badKey k ≡ false
-        → (lookupAnswer bytes k ≡ findingFor (indexOf k (entriesOf bytes)) (best k ds)) × (valuePart bytes k ≡ valueFor (best k ds))
-    unfolding lookupAnswer valuePart
-    look-is k b =
-        let f : find k (entriesOf bytes) ≡ best k ds = ap (find k) entries-are ∙ find-held k ds in
-        (rw (is-sound, b, f), rw (is-sound, b, f))
+said-events : (w : Stores) (cs : List Call) → allSaid w (eventsOf cs) ≡ tell (answers w cs)
+unfolding allSaid answers eventsOf afterEvent said tell
+said-events w [] = refl
+said-events w (c ∷ cs) = ap (λ (l : List Said). told (answer w c) ∷ l) (said-events (after w c) cs)
 
-    look-greatest : (e : Entry) → Greatest ds e → Finds bytes e
-    unfolding valueFor
-    look-greatest e g =
-        let ok = accepted e (a .acceptable e (g .0)) in
-        let l = look-is (e .key) (ok .good-key) in
-        let b = greatest-best ds e g in
-        record {
-          told = l .0 ∙ rw b;
-          part = l .1 ∙ rw b (elim (test (eqb (e .flag) 1)) [ inl p ↦ rw p (sym (ok .tombstone (eqb-true _ _ p))) | inr p ↦ rw p ]);
-        }
+-- ---- and so do the books, at the line 0
+module _ (t : Start) (z : t .line ≡ 0) where
+  never-below : (ds : List Entry) (e : Entry) → below t ds e ≡ false
+  unfolding below
+  never-below ds e = rw (le-ltb (e .stamp .phys) (t .line) (omega (arith, z)))
 
-    look-unseen : (k : List ℕ) → badKey k ≡ false → hasKey k ds ≡ false → (lookupAnswer bytes k ≡ never) × (valuePart bytes k ≡ [])
-    unfolding findingFor valueFor
-    look-unseen k b h =
-        let l = look-is k b in
-        let q = none-of (best k ds) (sym (hasKey-best k ds) ∙ h) in
-        (l .0 ∙ rw q, l .1 ∙ rw q)
+  offer-same : (ds : List Entry) (e : Entry) → liveOffer t ds e ≡ bookOffer (t .slots) ds e
+  unfolding liveOffer bookOffer below
+  offer-same ds e = rw (never-below ds e, all-live t z ds) (elim (test (eqb (refusalOf e) 0)) [ inl p ↦ rw p | inr p ↦ rw p ])
 
-  module _ {ds gs : List Entry} {receiver giver : List ℕ} (a : StoreAgrees ds receiver) (b : StoreAgrees gs giver) where
-    merge-answer : mergeAnswer receiver giver ≡ bookMerge C ds gs
-    unfolding mergeAnswer bookMerge
-    merge-answer = rw (is-sound a, is-sound b, entries-are a, entries-are b, slots-are a, held-append gs ds, keyCount-held (gs ++ ds))
+  offered-same : (ds : List Entry) (e : Entry) → liveOffered t ds e ≡ bookOffered (t .slots) ds e
+  unfolding liveOffered bookOffered
+  offered-same ds e = rw (← offer-same ds e) (go (judged t ds e))
+    where
+      go : Judged t ds e (liveOffer t ds e) → cond (joins (liveOffer t ds e)) (e ∷ ds) ds ≡ cond (isRefused (liveOffer t ds e)) ds (e ∷ ds)
+      go (turned p q) = rw (p, q)
+      go (passed p k b) = clash b (never-below ds e)
+      go (taken p q k b f) = rw (p, q)
 
-    merge-after : StoreAgrees (bookMerged C ds gs) (afterMerge receiver giver)
-    unfolding afterMerge bookMerged
-    merge-after = rw merge-answer (elim (test (isRefused (bookMerge C ds gs))) [
-      | inl p ↦ rw p a
-      | inr p ↦ rw (p, entries-are a, entries-are b, slots-are a)
-          record {
-            is-image = rw (held-append gs ds);
-            fits = merge-accepted C ds gs p;
-            acceptable = λ d k. elim (mem-append gs k) [ inl q ↦ b .acceptable d q | inr q ↦ a .acceptable d q ];
-            known = within-append gs ds (b .known) (a .known);
-          }
-    ])
+  merge-same : (ds gs : List Entry) → liveMerge t ds gs ≡ bookMerge (t .slots) ds gs
+  unfolding liveMerge
+  merge-same ds gs = rw (all-live t z ds, all-live t z gs)
 
-  -- and so for each store
-  pub record Agrees (b : Book) (w : Stores) : Type 0 where
-    pub sets : length b ≡ n
-    pub stores : length w ≡ n
-    pub each : (i : ℕ) → i < n → StoreAgrees (delivered b i) (store w i)
+  merged-same : (ds gs : List Entry) → liveMerged t ds gs ≡ bookMerged (t .slots) ds gs
+  unfolding liveMerged bookMerged
+  merged-same ds gs = rw (merge-same ds gs)
 
-  set-agrees : {b : Book} {w : Stores} (r : ℕ) {ds : List Entry} {bytes : List ℕ} → r < n → Agrees b w → StoreAgrees ds bytes
-      → Agrees (set b r ds) (set w r bytes)
-  set-agrees {b} {w} r {ds} {bytes} h a s = record {
-    sets = length-set b r ds ∙ a .sets;
-    stores = length-set w r bytes ∙ a .stores;
-    each = λ i k. elim (test (eqb i r)) [
-      | inl p ↦ rw (eqb-true i r p, getD-set-same b r ds [] (omega arith), getD-set-same w r bytes [] (omega arith)) s
-      | inr p ↦ rw (getD-set-other b r i ds [] (eqb-false i r p), getD-set-other w r i bytes [] (eqb-false i r p)) (a .each i k)
-    ];
+  said-same : (b : Book) (c : Call) → bookSaid t b (call c) ≡ told (bookAnswer (t .slots) b c)
+  unfolding bookSaid bookAnswer
+  said-same b (offer i e) = rw (offer-same (delivered b i) e)
+  said-same b (merge r g) = rw (merge-same (delivered b r) (delivered b g))
+
+  then-same : (b : Book) (c : Call) → bookThen t b (call c) ≡ bookAfter (t .slots) b c
+  unfolding bookThen bookAfter
+  then-same b (offer i e) = rw (offered-same (delivered b i) e)
+  then-same b (merge r g) = rw (merged-same (delivered b r) (delivered b g))
+
+  run-same : (b : Book) (cs : List Call) → bookRun t b (eventsOf cs) ≡ runBook (t .slots) b cs
+  unfolding bookRun runBook eventsOf
+  run-same b [] = refl
+  run-same b (c ∷ cs) = ap (λ (x : Book). bookRun t x (eventsOf cs)) (then-same b c) ∙ run-same (bookAfter (t .slots) b c) cs
+
+  says-same : (b : Book) (cs : List Call) → bookSays t b (eventsOf cs) ≡ tell (bookAnswers (t .slots) b cs)
+  unfolding bookSays bookAnswers eventsOf tell
+  says-same b [] = refl
+  says-same b (c ∷ cs) =
+      rw (said-same b c, then-same b c) (ap (λ (l : List Said). told (bookAnswer (t .slots) b c) ∷ l) (says-same (bookAfter (t .slots) b c) cs))
+
+  -- ---- and 34 is never said, so that where the keys fit nothing is refused
+  never-34 : (ds : List Entry) (e : Entry) → liveOffer t ds e ≡ refused 34 → ⊥
+  unfolding joins isRefused
+  never-34 ds e q = go (judged t ds e)
+    where
+      go : Judged t ds e (liveOffer t ds e) → ⊥
+      go (turned p j) = clash (ap joins q) j
+      go (passed p k b) = clash b (never-below ds e)
+      go (taken p j k b f) = clash (ap isRefused q) p
+
+  call-accepts : (b : Book) (c : Call) → Accepts (call c) (bookSaid t b (call c)) → isRefused (bookAnswer (t .slots) b c) ≡ false
+  unfolding bookSaid bookAnswer
+  call-accepts b (offer i e) h = rw (← offer-same (delivered b i) e) (elim h [ inl p ↦ p | inr p ↦ absurd (never-34 (delivered b i) e p) ])
+  call-accepts b (merge r g) h = rw (← merge-same (delivered b r) (delivered b g)) h
+
+  module _ (all : List Entry) (ok : (e : Entry) → e ∈ all → Acceptable e) (few : keyCount all ≤ t .slots) where
+    book-accepts : (b : Book) (cs : List Call) → ((i : ℕ) → Within (delivered b i) all) → Within (brought (eventsOf cs)) all
+        → (a : Answer) → a ∈ bookAnswers (t .slots) b cs → isRefused a ≡ false
+    unfolding bookAnswers eventsOf
+    book-accepts b [] f k a m = absurd (mem-nil m)
+    book-accepts b (c ∷ cs) f k a m = elim (mem-cons m) [
+      | inl q ↦ rw q (call-accepts b c (event-accepts t all ok few b (call c) (eventsOf cs) f k))
+      | inr q ↦ book-accepts (bookAfter (t .slots) b c) cs (rw (← then-same b c) (sets-within t all b (call c) (eventsOf cs) f k))
+          (brought-tail (call c) (eventsOf cs) k) a q
+    ]
+
+-- ---- fresh stores
+module _ (C n : ℕ) (lo : 1 ≤ C) (hi : C ≤ mostSlots) (calls : List Call) (range : InRange n calls) (rep : RepresentableOffers calls) where
+  abbrev s : List ℕ
+  s = freshStore C
+
+  abbrev t : Start
+  t = startOf s
+
+  is-sound : sound s ≡ true
+  is-sound = fresh-keeps C lo hi .0
+
+  slots : slotsOf s ≡ C
+  slots = fresh-keeps C lo hi .1
+
+  line : lineOf s ≡ 0
+  line = fresh-keeps C lo hi .2
+
+  nothing : entriesOf s ≡ []
+  nothing = fresh-keeps C lo hi .3
+
+  is-live : (e : Entry) → isLive t e ≡ true
+  is-live e = above-live t e (omega (arith, line))
+
+  -- the two runs, from the start of the one to the end of the other
+  stores : (cs : List Call) → runEvents (copies n s) (eventsOf cs) ≡ run (fresh C n) cs
+  unfolding copies fresh
+  stores cs = run-events (replicate n s) cs
+
+  sets : (cs : List Call) → bookRun t (replicate n (entriesOf s)) (eventsOf cs) ≡ runBook C (noneDelivered n) cs
+  unfolding noneDelivered
+  sets cs = run-same t line (replicate n (entriesOf s)) cs ∙ rw (slots, nothing)
+
+  from : HistoryFrom s n (eventsOf calls)
+  from = history-from s n (eventsOf calls) is-sound (events-given n calls range rep)
+
+  same-answers : answers (fresh C n) calls ≡ bookAnswers C (noneDelivered n) calls
+  unfolding copies fresh noneDelivered
+  same-answers =
+      let p : tell (answers (replicate n s) calls) ≡ tell (bookAnswers (slotsOf s) (replicate n (entriesOf s)) calls) =
+      sym (said-events (replicate n s) calls) ∙ from .answered ∙ says-same t line (replicate n (entriesOf s)) calls in
+      sym (hear-tell (answers (replicate n s) calls)) ∙ ap hear p ∙ hear-tell _ ∙ rw (slots, nothing)
+
+  history : DeliveryHistory C n calls
+  unfolding noneDelivered eventsOf afterEvent
+  history = record {
+    answered = same-answers;
+    accepted = λ ok few a m.
+        book-accepts t line (offers calls) ok (rw slots few) (replicate n []) calls (λ i. copies-within n i [] (offers calls) (λ e k. absurd (mem-nil k)))
+        (rw (events-bring calls) (λ e k. k)) a (rw slots (rw same-answers at m));
+    holds = λ i l e.
+        let h = from .holds i l e in
+        rw (← stores calls, ← sets calls) (λ m. h .0 m .0, λ g. h .1 (g, is-live e));
+    keys = λ i l d. rw (← stores calls, ← sets calls) (λ m. from .keys i l d m (is-live d));
+    bytes = λ i l.
+        let b = from .bytes i l in
+        rw (← stores calls) (b .0, b .1 ∙ ap₂ (λ (x y : ℕ). image x y (entriesOf (store (runEvents (copies n s) (eventsOf calls)) i))) slots line);
+    converge = λ i j l m. rw (← stores calls, ← sets calls) (from .converge i j l m);
+    monotone = λ before c later split i l h.
+        rw (← stores before) (from .monotone (eventsOf before) (call c) (eventsOf later) (ap eventsOf split ∙ events-append before (c ∷ later)) i l h);
+    looked = λ i l e. rw (← stores calls, ← sets calls) (λ g. from .looked i l e g (is-live e));
+    unseen = λ i l k b.
+        let ds = delivered (bookRun t (replicate n (entriesOf s)) (eventsOf calls)) i in
+        rw (← stores calls, ← sets calls) (λ u. from .unseen i l k b (rw (all-live t line ds) u));
   }
-
-  pub call-answer : {b : Book} {w : Stores} (c : Call) (cs : List Call) → InRange n (c ∷ cs) → Agrees b w → answer w c ≡ bookAnswer C b c
-  unfolding answer bookAnswer
-  call-answer (offer i e) cs r a = offer-answer (a .each i (r .0)) e
-  call-answer (merge i j) cs r a = merge-answer (a .each i (r .0)) (a .each j (r .1))
-
-  pub call-after : {b : Book} {w : Stores} (c : Call) (cs : List Call) → InRange n (c ∷ cs) → Within (offers (c ∷ cs)) all → Agrees b w
-      → Agrees (bookAfter C b c) (after w c)
-  unfolding after bookAfter offers
-  call-after (offer i e) cs r k a = set-agrees i (r .0) a (offer-after (a .each i (r .0)) e (k e (head refl)))
-  call-after (merge i j) cs r k a = set-agrees i (r .0) a (merge-after (a .each i (r .0)) (a .each j (r .1)))
-
-  pub run-agrees : {b : Book} {w : Stores} (cs : List Call) → InRange n cs → Within (offers cs) all → Agrees b w → Agrees (runBook C b cs) (run w cs)
-  unfolding run runBook
-  run-agrees [] r k a = a
-  run-agrees (c ∷ cs) r k a = run-agrees cs (range-tail n c cs r) (offers-tail c cs k) (call-after c cs r k a)
-
-  pub run-answers : {b : Book} {w : Stores} (cs : List Call) → InRange n cs → Within (offers cs) all → Agrees b w → answers w cs ≡ bookAnswers C b cs
-  unfolding answers bookAnswers
-  run-answers [] r k a = refl
-  run-answers (c ∷ cs) r k a = ap₂ _∷_ (call-answer c cs r a) (run-answers cs (range-tail n c cs r) (offers-tail c cs k) (call-after c cs r k a))
-
-  -- the start
-  pub fresh-agrees : Agrees (noneDelivered n) (fresh C n)
-  unfolding noneDelivered fresh freshStore held keyCount
-  fresh-agrees = record {
-    sets = length-replicate n [];
-    stores = length-replicate n (freshStore C);
-    each = λ i k. rw (getD-replicate {A = List Entry} n i [] [] k, getD-replicate n i (freshStore C) [] k) record {
-      is-image = refl;
-      fits = omega arith;
-      acceptable = λ e m. absurd (mem-nil m);
-      known = λ e m. absurd (mem-nil m);
-    };
-  }
-
-  module _ (calls : List Call) (range : InRange n calls) (k : Within (offers calls) all) where
-    end : Agrees (runBook C (noneDelivered n) calls) (run (fresh C n) calls)
-    end = run-agrees calls range k fresh-agrees
-
-    same-answers : answers (fresh C n) calls ≡ bookAnswers C (noneDelivered n) calls
-    same-answers = run-answers calls range k fresh-agrees
-
-    history : DeliveryHistory C n calls
-    unfolding noneDelivered
-    history = record {
-      answered = same-answers;
-      accepted =
-          λ ok few a m. book-accepts C (offers calls) ok few (noneDelivered n) calls (λ i. none-within n i (offers calls)) (λ e j. j) a (rw same-answers at m);
-      holds = λ i h e. let a = end .each i h in rw (entries-are a) (held-greatest (setAfter C n calls i) e);
-      keys = λ i h d m. let a = end .each i h in rw (entries-are a) (held-key (setAfter C n calls i) m);
-      bytes = λ i h. let a = end .each i h in rw (entries-are a) (ascend _ (held-ascending (setAfter C n calls i)), a .is-image);
-      converge = λ i j h l f.
-          let a = end .each i h in
-          let b = end .each j l in
-          a .is-image ∙ ap (image C) (held-same (setAfter C n calls i) (setAfter C n calls j) (λ e. f e .0) (λ e. f e .1))
-          ∙ sym (b .is-image);
-      monotone = λ before c later split i l h.
-          let r = range-append n before (c ∷ later) (rw split at range) in
-          let o = offers-append before (c ∷ later) (rw split at k) in
-          let a = run-agrees before (r .0) (o .0) fresh-agrees in
-          let b = call-after c later (r .1) (o .1) a in
-          rw (entries-are (a .each i l), entries-are (b .each i l))
-          (λ m. let (g, k, e, u) = held-grows _ _ (book-grows C (runBook C (noneDelivered n) before) c i) h m in (g, k, e, beats-stamp h g u, u));
-      looked = λ i h e g. look-greatest (end .each i h) e g;
-      unseen = λ i h k b u. look-unseen (end .each i h) k b u;
-    }
 
 pub delivery-history : EveryDeliveryHistory
-delivery-history C n calls lo hi range rep = history C n lo hi (offers calls) rep calls range (λ e m. m)
+delivery-history C n calls lo hi range rep = history C n lo hi calls range rep

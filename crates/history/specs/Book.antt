@@ -4,11 +4,12 @@ use Prim.Native.Nat.{ℕ, suc, _<_}
 use mathlib.Core.Path.{_≡_}
 use mathlib.Core.Bool.{Bool, true, false, cond, not, _&&_, _||_}
 use mathlib.Core.List.{List, [], _∷_, _++_}
+use mathlib.Core.Option.{Option, none}
 use lib.ListN.{getD, set}
 use lib.Dec.{ltb, eqb}
 use Rattle.wire.specs.Order.{sameBytes}
 use Rattle.entry.specs.Entry.{Entry, beats, refusalOf}
-use Rattle.store.specs.Held.{_∈_}
+use Rattle.store.specs.Held.{_∈_, better}
 use Rattle.store.specs.Answer.{Answer, stored, replaced, kept, merged, refused, isRefused}
 
 -- a call names stores by their index (R126)
@@ -36,6 +37,11 @@ beatsAll e (d ∷ ds) = cond (sameBytes (e .key) (d .key)) (beats e d && beatsAl
 abbrev pub Greatest : List Entry → Entry → Type 0
 Greatest ds e = (e ∈ ds) × ((d : Entry) → d ∈ ds → d .key ≡ e .key → beats d e ≡ false)
 
+-- that entry, if there is one of the key (R187)
+unfoldable pub best : List ℕ → List Entry → Option Entry
+best k [] = none
+best k (d ∷ ds) = cond (sameBytes k (d .key)) (better d (best k ds)) (best k ds)
+
 -- an offer of e to a store of C slots to which ds were delivered (R128 to R130)
 unfoldable pub bookOffer : ℕ → List Entry → Entry → Answer
 bookOffer C ds e =
@@ -47,9 +53,10 @@ bookOffer C ds e =
 unfoldable pub bookOffered : ℕ → List Entry → Entry → List Entry  -- (R130, R133)
 bookOffered C ds e = cond (isRefused (bookOffer C ds e)) ds (e ∷ ds)
 
--- a merge of a store to which gs were delivered into one of C slots to which ds were (R131)
+-- a merge of a store to which gs were delivered into one of C slots to which ds were; no entry is
+-- passed over (R131, R260)
 unfoldable pub bookMerge : ℕ → List Entry → List Entry → Answer
-bookMerge C ds gs = cond (ltb C (keyCount (gs ++ ds))) (refused 6) merged
+bookMerge C ds gs = cond (ltb C (keyCount (gs ++ ds))) (refused 6) (merged 0)
 
 unfoldable pub bookMerged : ℕ → List Entry → List Entry → List Entry  -- (R132, R133)
 bookMerged C ds gs = cond (isRefused (bookMerge C ds gs)) ds (gs ++ ds)

@@ -72,9 +72,9 @@ pub record DeliveryHistory (C n : ℕ) (calls : List Call) : Type 0 where
   -- and it holds one of each key (R187)
   pub keys : (i : ℕ) → i < n → (d : Entry) → d ∈ setAfter C n calls i
       → (e : Entry) × e ∈ entriesOf (storeAfter C n calls i) × (e .key ≡ d .key)
-  -- its bytes are the image of those entries, in key order (R188, R193)
+  -- its bytes are the image of those entries, in key order, with the line 0 (R188, R193, R257)
   pub bytes : (i : ℕ) → i < n
-      → (ascending (entriesOf (storeAfter C n calls i)) ≡ true) × (storeAfter C n calls i ≡ image C (entriesOf (storeAfter C n calls i)))
+      → (ascending (entriesOf (storeAfter C n calls i)) ≡ true) × (storeAfter C n calls i ≡ image C 0 (entriesOf (storeAfter C n calls i)))
   -- stores to which the same set was delivered are equal, byte for byte (R189)
   pub converge : (i j : ℕ) → i < n → j < n → ((e : Entry) → e ∈ setAfter C n calls i ↔ e ∈ setAfter C n calls j)
       → storeAfter C n calls i ≡ storeAfter C n calls j

@@ -1,2 +1,5 @@
 pub mod Book
 pub mod History
+pub mod Events
+pub mod AfterPurge
+pub mod Returning

@@ -8,17 +8,18 @@ use native.Mathlib.Nat.{le-of-suc-le-suc, not-suc-le-zero}
 use lib.ListN.{length, take, drop, length-append}
 use lib.Seq.{take-at, drop-at, drop-drop}
 use borrow.Author.Tests.{eqb-true, eq-eqb, leb-true, le-leb}
-use Rattle.wire.specs.Number.{be}
+use Rattle.wire.specs.Number.{be, num}
 use Rattle.wire.specs.Fill.{zeros, field}
 use Rattle.wire.proofs.Tests.{and-true}
-use Rattle.wire.proofs.Number.{length-be, num-be}
+use Rattle.wire.proofs.Number.{length-be, num-be, num-be-lt}
 use Rattle.wire.proofs.Fill.{length-zeros, field-here, field-past}
 use Rattle.wire.proofs.Order.{sameBytes-eq, sameBytes-refl}
 use Rattle.entry.specs.Entry.{Entry}
-use Rattle.image.specs.Layout.{headerWidth, slotWidth, mostSlots, slotStart}
-use Rattle.image.specs.Image.{slotBytes, slots, header, image, slotEntry, entriesIn, slotsOf, usedOf, entriesOf, acceptable, allAcceptable, sound}
+use Rattle.image.specs.Layout.{lineAt, headerWidth, slotWidth, mostSlots, slotStart}
+use Rattle.image.specs.Image.{slotBytes, slots, header, image, slotEntry, entriesIn, slotsOf, usedOf, lineOf, entriesOf, acceptable, allAcceptable}
+use Rattle.image.specs.Image.{sound}
 use Rattle.image.specs.Slot.{slotAt, headerWith}
-use Rattle.image.specs.Meaning.{AllFit, Sound, SoundIs, SoundImage, EntriesOfImage}
+use Rattle.image.specs.Meaning.{AllFit, Sound, SoundIs, SoundImage, EntriesOfImage, LineOfImage, LineIsTime}
 use Rattle.image.proofs.SlotLaws.{length-slot, slot-entry, fit-of}
 
 pub length-slots : (es : List Entry) → length (slots es) ≡ slotWidth * length es
@@ -31,37 +32,54 @@ unfolding slots
 slots-append [] ys = refl
 slots-append (e ∷ xs) ys = ap (λ (r : List ℕ). slotBytes e ++ r) (slots-append xs ys) ∙ sym (append-assoc (slotBytes e) (slots xs) (slots ys))
 
-pub length-header : (c u : ℕ) → length (header c u) ≡ headerWidth
+pub length-header : (c u line : ℕ) → length (header c u line) ≡ headerWidth
 unfolding header
-length-header c u = simp (length-append, length-be, length-zeros)
+length-header c u line = simp (length-append, length-be, length-zeros)
 
 -- a header written over its bytes
-pub header-with : (c u : ℕ) (s : List ℕ) → length s ≡ headerWidth → headerWith c u s ≡ header c u
+pub header-with : (c u line : ℕ) (s : List ℕ) → length s ≡ headerWidth → headerWith c u line s ≡ header c u line
 unfolding headerWith
-header-with c u s h = rw (eq-eqb (length s) headerWidth h)
+header-with c u line s h = rw (eq-eqb (length s) headerWidth h)
 
-pub length-image : (c : ℕ) (es : List Entry) → length es ≤ c → length (image c es) ≡ slotStart c
+pub length-image : (c line : ℕ) (es : List Entry) → length es ≤ c → length (image c line es) ≡ slotStart c
 unfolding image
-length-image c es h = simp (length-append, length-header, length-slots, length-zeros) (omega arith)
+length-image c line es h = simp (length-append, length-header, length-slots, length-zeros) (omega arith)
 
 -- bracketed to the right
-pub flat-header : (c u : ℕ) (r : List ℕ) → header c u ++ r ≡ be 2 c ++ (be 2 u ++ (be 2 slotWidth ++ (be 2 headerWidth ++ (zeros 8 ++ r))))
+pub flat-header : (c u line : ℕ) (r : List ℕ)
+    → header c u line ++ r ≡ be 2 c ++ (be 2 u ++ (be 2 slotWidth ++ (be 2 headerWidth ++ (be 6 line ++ (zeros 2 ++ r)))))
 unfolding header
-flat-header c u r = simp append-assoc
+flat-header c u line r = simp append-assoc
 
-pub flat-image : (c : ℕ) (es : List Entry) → image c es ≡ header c (length es) ++ (slots es ++ zeros (slotWidth * (c - length es)))
+pub flat-image : (c line : ℕ) (es : List Entry) → image c line es ≡ header c (length es) line ++ (slots es ++ zeros (slotWidth * (c - length es)))
 unfolding image
-flat-image c es = simp append-assoc
+flat-image c line es = simp append-assoc
 
 -- ---- what is read back
-pub slots-of-image : (c : ℕ) (es : List Entry) → c < 65536 → slotsOf (image c es) ≡ c
+pub slots-of-image : (c line : ℕ) (es : List Entry) → c < 65536 → slotsOf (image c line es) ≡ c
 unfolding slotsOf
-slots-of-image c es h = rw (flat-image, flat-header, field-here 2 (be 2 c) _ (length-be 2 c)) (num-be 2 c h)
+slots-of-image c line es h = rw (flat-image, flat-header, field-here 2 (be 2 c) _ (length-be 2 c)) (num-be 2 c h)
 
-pub used-of-image : (c : ℕ) (es : List Entry) → length es < 65536 → usedOf (image c es) ≡ length es
+pub used-of-image : (c line : ℕ) (es : List Entry) → length es < 65536 → usedOf (image c line es) ≡ length es
 unfolding usedOf
-used-of-image c es h =
+used-of-image c line es h =
     rw (flat-image, flat-header, field-past 2 0 2 (be 2 c) _ (length-be 2 c), field-here 2 (be 2 (length es)) _ (length-be 2 _)) (num-be 2 (length es) h)
+
+-- the line stands behind four numbers of two bytes
+past-numbers : (c u line at w : ℕ) (r : List ℕ) → field (8 + at) w (header c u line ++ r) ≡ field at w (be 6 line ++ (zeros 2 ++ r))
+past-numbers c u line at w r =
+    let n : 8 + at ≡ 2 + (2 + (2 + (2 + at))) = omega arith in
+    ap₂ (λ (k : ℕ) (l : List ℕ). field k w l) n (flat-header c u line r)
+    ∙ field-past 2 _ w (be 2 c) _ (length-be 2 _) ∙ field-past 2 _ w (be 2 u) _ (length-be 2 _)
+    ∙ field-past 2 _ w (be 2 slotWidth) _ (length-be 2 _) ∙ field-past 2 at w (be 2 headerWidth) _ (length-be 2 _)
+
+line-field : (c line : ℕ) (es : List Entry) → field lineAt 6 (image c line es) ≡ be 6 line
+line-field c line es =
+    ap (field lineAt 6) (flat-image c line es) ∙ past-numbers c (length es) line 0 6 _ ∙ field-here 6 (be 6 line) _ (length-be 6 line)
+
+pub line-of-image : LineOfImage
+unfolding lineOf
+line-of-image c line es h = ap num (line-field c line es) ∙ num-be 6 line h
 
 module _ (e : Entry) (es : List Entry) (r : List ℕ) where
   pub first-slot : take slotWidth (slots (e ∷ es) ++ r) ≡ slotBytes e
@@ -81,8 +99,9 @@ entries-in (e ∷ es) r f =
 
 pub entries-of-image : EntriesOfImage
 unfolding entriesOf
-entries-of-image c es f h =
-    ap₂ entriesIn (used-of-image c es h) (ap (drop headerWidth) (flat-image c es) ∙ drop-at (header c (length es)) _ headerWidth (length-header c (length es)))
+entries-of-image c line es f h =
+    ap₂ entriesIn (used-of-image c line es h)
+    (ap (drop headerWidth) (flat-image c line es) ∙ drop-at (header c (length es) line) _ headerWidth (length-header c (length es) line))
     ∙ entries-in es _ f
 
 -- ---- the used slots of any bytes
@@ -138,24 +157,25 @@ is-sound s k = rw (le-leb _ _ (k .some), le-leb _ _ (k .most), le-leb _ _ (k .ro
 
 pub sound-image : SoundImage
 unfolding sound
-sound-image c es lo hi room f each order =
+sound-image c line es lo hi time room f each order =
     rw (
-      slots-of-image c es (omega arith),
-      used-of-image c es (omega arith),
-      entries-of-image c es f (omega arith),
+      slots-of-image c line es (omega arith),
+      used-of-image c line es (omega arith),
+      line-of-image c line es time,
+      entries-of-image c line es f (omega arith),
       le-leb 1 c lo,
       le-leb c mostSlots hi,
       le-leb (length es) c room,
       each,
       order,
-      sameBytes-refl (image c es),
+      sameBytes-refl (image c line es),
     )
 
 -- past the header of a sound store
 pub past-header : (s : List ℕ) → Sound s → drop headerWidth s ≡ slots (entriesOf s) ++ zeros (slotWidth * (slotsOf s - length (entriesOf s)))
 past-header s k =
-    ap (drop headerWidth) (k .bytes ∙ flat-image (slotsOf s) (entriesOf s))
-    ∙ drop-at (header (slotsOf s) (length (entriesOf s))) _ headerWidth (length-header (slotsOf s) (length (entriesOf s)))
+    ap (drop headerWidth) (k .bytes ∙ flat-image (slotsOf s) (lineOf s) (entriesOf s))
+    ∙ drop-at (header (slotsOf s) (length (entriesOf s)) (lineOf s)) _ headerWidth (length-header (slotsOf s) (length (entriesOf s)) (lineOf s))
 
 heads : (a b : Entry) (r s : List Entry) → a ∷ r ≡ b ∷ s → (a ≡ b) × (r ≡ s)
 heads a b r s h = (cc, cc)
@@ -174,4 +194,12 @@ unfolding entriesOf
 sound-fits s k = fits-in (entriesOf s) (zeros (slotWidth * (slotsOf s - length (entriesOf s)))) (k .each) (ap₂ entriesIn (used-is s) (sym (past-header s k)))
 
 pub sound-length : (s : List ℕ) → Sound s → length s ≡ slotStart (slotsOf s)
-sound-length s k = ap length (k .bytes) ∙ length-image (slotsOf s) (entriesOf s) (omega (arith, used-is s, k .room))
+sound-length s k = ap length (k .bytes) ∙ length-image (slotsOf s) (lineOf s) (entriesOf s) (omega (arith, used-is s, k .room))
+
+-- its line was read from a field
+pub line-is-time : LineIsTime
+unfolding lineOf
+line-is-time s h =
+    let k = sound-is s h in
+    let e : lineOf s ≡ num (be 6 (lineOf s)) = ap lineOf (k .bytes) ∙ ap num (line-field (slotsOf s) (lineOf s) (entriesOf s)) in
+    rw e (num-be-lt 6 (lineOf s))

@@ -28,8 +28,8 @@ use Rattle.entry.specs.Order.{keyBelow}
 use Rattle.entry.specs.Entry.{Entry, entryOf, refusalOf}
 use Rattle.entry.proofs.Numbers.{number-range}
 use Rattle.image.specs.Layout.{headerWidth, keyWidth, valueWidth, slotWidth, mostSlots, slotStart}
-use Rattle.image.specs.Image.{slotBytes, slots, header, keyIn, flagIn, valueIn, stampIn, slotEntry, entriesIn, slotsOf, usedOf, entriesOf, acceptable}
-use Rattle.image.specs.Image.{allAcceptable, belowFirst, ascending, sound}
+use Rattle.image.specs.Image.{slotBytes, slots, header, keyIn, flagIn, valueIn, stampIn, slotEntry, entriesIn, slotsOf, usedOf, lineOf, entriesOf}
+use Rattle.image.specs.Image.{acceptable, allAcceptable, belowFirst, ascending, sound}
 use Rattle.image.specs.Slot.{slotAt}
 use Rattle.image.specs.Check.{sealed, slotSound, slotsSound, shaped}
 use Rattle.image.specs.Meaning.{Fit, AllFit, Sound}
@@ -191,7 +191,7 @@ pub record Shape (s : List ℕ) : Type 0 where
   pub most : slotsOf s ≤ mostSlots
   pub room : usedOf s ≤ slotsOf s
   pub long : length s ≡ slotStart (slotsOf s)
-  pub head : take headerWidth s ≡ header (slotsOf s) (usedOf s)
+  pub head : take headerWidth s ≡ header (slotsOf s) (usedOf s) (lineOf s)
 
 pub shape-of : (s : List ℕ) → shaped s ≡ true → Shape s
 unfolding shaped
@@ -230,11 +230,12 @@ module _ (s : List ℕ) (c : ℕ) (ce : c ≡ slotsOf s) where
 
 -- what a right header says of its fields
 module _ (s : List ℕ) (k : Shape s) where
-  laid-out : s ≡ be 2 (slotsOf s) ++ (be 2 (usedOf s) ++ (be 2 slotWidth ++ (be 2 headerWidth ++ (zeros 8 ++ drop headerWidth s))))
+  laid-out : s ≡ be 2 (slotsOf s) ++ (be 2 (usedOf s) ++ (be 2 slotWidth ++ (be 2 headerWidth ++ (be 6 (lineOf s) ++ (zeros 2 ++ drop headerWidth s)))))
   laid-out =
-      sym (take-append-drop headerWidth s) ∙ ap (λ (h : List ℕ). h ++ drop headerWidth s) (k .head) ∙ flat-header (slotsOf s) (usedOf s) (drop headerWidth s)
+      sym (take-append-drop headerWidth s) ∙ ap (λ (h : List ℕ). h ++ drop headerWidth s) (k .head)
+      ∙ flat-header (slotsOf s) (usedOf s) (lineOf s) (drop headerWidth s)
 
-  past-counts : (at w : ℕ) → field (4 + at) w s ≡ field at w (be 2 slotWidth ++ (be 2 headerWidth ++ (zeros 8 ++ drop headerWidth s)))
+  past-counts : (at w : ℕ) → field (4 + at) w s ≡ field at w (be 2 slotWidth ++ (be 2 headerWidth ++ (be 6 (lineOf s) ++ (zeros 2 ++ drop headerWidth s))))
   past-counts at w =
       let n : 4 + at ≡ 2 + (2 + at) = omega arith in
       ap (λ (k : ℕ). field k w s) n ∙ ap (field (2 + (2 + at)) w) laid-out
@@ -248,10 +249,10 @@ module _ (s : List ℕ) (k : Shape s) where
       ap num (past-counts 2 2 ∙ field-past 2 0 2 (be 2 slotWidth) _ (length-be 2 _) ∙ field-here 2 (be 2 headerWidth) _ (length-be 2 _))
       ∙ num-be 2 headerWidth (omega arith)
 
-  rest-is : field 8 8 s ≡ zeros 8
+  rest-is : field 14 2 s ≡ zeros 2
   rest-is =
-      past-counts 4 8 ∙ field-past 2 2 8 (be 2 slotWidth) _ (length-be 2 _) ∙ field-past 2 0 8 (be 2 headerWidth) _ (length-be 2 _)
-      ∙ field-here 8 (zeros 8) _ (length-zeros 8)
+      past-counts 10 2 ∙ field-past 2 8 2 (be 2 slotWidth) _ (length-be 2 _) ∙ field-past 2 6 2 (be 2 headerWidth) _ (length-be 2 _)
+      ∙ field-past 6 0 2 (be 6 (lineOf s)) _ (length-be 6 _) ∙ field-here 2 (zeros 2) _ (length-zeros 2)
 
 module _ (s : List ℕ) where
   pub bad-width : (n : ℕ) → n ≡ num (field 4 2 s) → (n ≡ slotWidth → ⊥) → false ≡ shaped s
@@ -270,31 +271,33 @@ module _ (s : List ℕ) where
     unfolding field
     whole = refl
 
-    head-is : field 8 8 s ≡ zeros 8 → take headerWidth s ≡ header (slotsOf s) (usedOf s)
-    unfolding header slotsOf usedOf
+    head-is : field 14 2 s ≡ zeros 2 → take headerWidth s ≡ header (slotsOf s) (usedOf s) (lineOf s)
+    unfolding header slotsOf usedOf lineOf
     head-is z = sym (rw (
       ap (be 2) (sym width) ∙ be-here 4 2 (omega arith),
       ap (be 2) (sym offset) ∙ be-here 6 2 (omega arith),
       be-here 0 2 (omega arith),
       be-here 2 2 (omega arith),
+      be-here 8 6 (omega arith),
       ← z,
       ← field-split 0 2 2 s,
       ← field-split 0 4 2 s,
       ← field-split 0 6 2 s,
-      ← field-split 0 8 8 s,
+      ← field-split 0 8 6 s,
+      ← field-split 0 14 2 s,
     ) whole)
 
-    pub shaped-by-rest : sameBytes (field 8 8 s) (zeros (length (field 8 8 s))) ≡ shaped s
-    shaped-by-rest = elim (test (sameBytes (field 8 8 s) (zeros (length (field 8 8 s))))) [
+    pub shaped-by-rest : sameBytes (field 14 2 s) (zeros (length (field 14 2 s))) ≡ shaped s
+    shaped-by-rest = elim (test (sameBytes (field 14 2 s) (zeros (length (field 14 2 s))))) [
       | inl p ↦
           p ∙ sym (is-shaped s (record {
             some = some;
             most = most;
             room = room;
             long = long;
-            head = head-is (zero-is 8 (field 8 8 s) (length-field 8 8 s (omega arith)) p);
+            head = head-is (zero-is 2 (field 14 2 s) (length-field 14 2 s (omega arith)) p);
           }))
-      | inr p ↦ p ∙ shapeless s (λ k. clash (zero-true 8 (field 8 8 s) (rest-is s k)) p)
+      | inr p ↦ p ∙ shapeless s (λ k. clash (zero-true 2 (field 14 2 s) (rest-is s k)) p)
     ]
 
 -- ---- the whole store
@@ -306,8 +309,9 @@ module _ (s : List ℕ) where
     room = k .room;
     long = sound-length s k;
     head =
-        ap (take headerWidth) (k .bytes ∙ flat-image (slotsOf s) (entriesOf s))
-        ∙ take-at (header (slotsOf s) (length (entriesOf s))) _ headerWidth (length-header _ _) ∙ ap (header (slotsOf s)) (used-is s);
+        ap (take headerWidth) (k .bytes ∙ flat-image (slotsOf s) (lineOf s) (entriesOf s))
+        ∙ take-at (header (slotsOf s) (length (entriesOf s)) (lineOf s)) _ headerWidth (length-header _ _ _)
+        ∙ ap (λ (u : ℕ). header (slotsOf s) u (lineOf s)) (used-is s);
   }
 
   sound-slots : Sound s → slotsSound (usedOf s) (drop headerWidth s) ≡ true
@@ -342,11 +346,11 @@ module _ (s : List ℕ) where
       order = asc;
       bytes =
           sym (take-append-drop headerWidth s)
-          ∙ ap₂ (λ (x y : List ℕ). x ++ y) (sh .head ∙ ap (header (slotsOf s)) (sym (used-is s)))
+          ∙ ap₂ (λ (x y : List ℕ). x ++ y) (sh .head ∙ ap (λ (u : ℕ). header (slotsOf s) u (lineOf s)) (sym (used-is s)))
           (run-is (usedOf s) (drop headerWidth s) ok
           ∙ ap (λ (r : List ℕ). slots (entriesOf s) ++ r)
           (drop-drop (slotWidth * usedOf s) headerWidth s ∙ rest ∙ ap (λ (u : ℕ). zeros (slotWidth * (slotsOf s - u))) (sym (used-is s))))
-          ∙ sym (flat-image (slotsOf s) (entriesOf s));
+          ∙ sym (flat-image (slotsOf s) (lineOf s) (entriesOf s));
     }
 
     length-rest : length (drop (slotStart (usedOf s)) s) ≡ slotWidth * (slotsOf s - usedOf s)

@@ -9,7 +9,7 @@ use Rattle.wire.specs.Number.{num}
 use Rattle.wire.specs.Fill.{field}
 use Rattle.wire.specs.Order.{sameBytes}
 use Rattle.image.specs.Layout.{headerWidth, klenAt, vlenAt, keyWidth, valueWidth, slotWidth, mostSlots, slotStart}
-use Rattle.image.specs.Image.{header, slotEntry, slotBytes, slotsOf, usedOf, acceptable}
+use Rattle.image.specs.Image.{header, slotEntry, slotBytes, slotsOf, usedOf, lineOf, acceptable}
 
 -- a slot is the slot of its entry: its zero fill and its checksum are right (R105, R106)
 unfoldable pub sealed : List ℕ → Bool
@@ -37,8 +37,8 @@ pub record Lengths (s : List ℕ) (klen vlen : ℕ) : Type 0 where
   pub key-fits : klen ≤ keyWidth
   pub value-fits : vlen ≤ valueWidth
 
--- C is 1 to 100, U at most C, the length is exact, and the header is right (R101 to R103, R110)
+-- C is 1 to 100, U at most C, the length is exact, and the header is right (R101 to R103, R110, R257)
 unfoldable pub shaped : List ℕ → Bool
 shaped s =
     leb 1 (slotsOf s) && leb (slotsOf s) mostSlots && leb (usedOf s) (slotsOf s)
-    && eqb (length s) (slotStart (slotsOf s)) && sameBytes (take headerWidth s) (header (slotsOf s) (usedOf s))
+    && eqb (length s) (slotStart (slotsOf s)) && sameBytes (take headerWidth s) (header (slotsOf s) (usedOf s) (lineOf s))

@@ -12,14 +12,15 @@ use Rattle.checksum.specs.Crc32c.{crc32c}
 use Rattle.entry.specs.declared.Stamp.{Stamp}
 use Rattle.entry.specs.Order.{keyBelow}
 use Rattle.entry.specs.Entry.{Entry, refusalOf}
-use Rattle.image.specs.Layout.{slotsAt, usedAt, headerWidth, klenAt, flagAt, vlenAt, physAt, logicalAt, nodeAt, keyAt, keyWidth, valueAt, valueWidth}
-use Rattle.image.specs.Layout.{slotWidth, mostSlots}
+use Rattle.image.specs.Layout.{slotsAt, usedAt, lineAt, headerWidth, klenAt, flagAt, vlenAt, physAt, logicalAt, nodeAt, keyAt, keyWidth, valueAt}
+use Rattle.image.specs.Layout.{valueWidth, slotWidth, mostSlots}
 
 -- ---- from the entries to the bytes
 
--- slots C (2), used U (2), slot width (2), offset of first slot (2), eight zero bytes (R103)
-unfoldable pub header : ℕ → ℕ → List ℕ
-header c u = be 2 c ++ be 2 u ++ be 2 slotWidth ++ be 2 headerWidth ++ zeros 8
+-- slots C (2), used U (2), slot width (2), offset of first slot (2), purge line (6), two zero bytes
+-- (R103, R257)
+unfoldable pub header : ℕ → ℕ → ℕ → List ℕ
+header c u line = be 2 c ++ be 2 u ++ be 2 slotWidth ++ be 2 headerWidth ++ be 6 line ++ zeros 2
 
 -- a slot's bytes before the key: klen(1), flag(1), vlen(2), phys(6), logical(2), node(1), three
 -- zeros (R104)
@@ -40,9 +41,9 @@ unfoldable pub slots : List Entry → List ℕ  -- (R107)
 slots [] = []
 slots (e ∷ es) = slotBytes e ++ slots es
 
--- used slots come first; unused slots are all zero (R102, R107, R109)
-unfoldable pub image : ℕ → List Entry → List ℕ
-image c es = header c (length es) ++ slots es ++ zeros (slotWidth * (c - length es))
+-- used slots come first; unused slots are all zero (R102, R107, R109, R257)
+unfoldable pub image : ℕ → ℕ → List Entry → List ℕ
+image c line es = header c (length es) line ++ slots es ++ zeros (slotWidth * (c - length es))
 
 -- ---- from the bytes to the entries
 
@@ -72,6 +73,11 @@ slotsOf s = num (field slotsAt 2 s)
 unfoldable pub usedOf : List ℕ → ℕ  -- (R103, R110)
 usedOf s = num (field usedAt 2 s)
 
+-- the purge line: tombstones with a phys below it may have been removed; the field's term is the low
+-- watermark of tombstone collection (R257)
+unfoldable pub lineOf : List ℕ → ℕ
+lineOf s = num (field lineAt 6 s)
+
 -- the entries of the used slots (R107, R193)
 unfoldable pub entriesOf : List ℕ → List Entry
 entriesOf s = entriesIn (usedOf s) (drop headerWidth s)
@@ -96,8 +102,8 @@ ascending [] = true
 ascending (e ∷ es) = belowFirst (e .key) es && ascending es
 
 -- C is 1 to 100, U at most C, every entry acceptable, keys strictly ascending, and the bytes are
--- the image of just those entries (R114)
+-- the image of just those entries, with any line (R114, R257)
 unfoldable pub sound : List ℕ → Bool
 sound s =
     leb 1 (slotsOf s) && leb (slotsOf s) mostSlots && leb (usedOf s) (slotsOf s)
-    && allAcceptable (entriesOf s) && ascending (entriesOf s) && sameBytes s (image (slotsOf s) (entriesOf s))
+    && allAcceptable (entriesOf s) && ascending (entriesOf s) && sameBytes s (image (slotsOf s) (lineOf s) (entriesOf s))

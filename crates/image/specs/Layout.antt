@@ -2,7 +2,8 @@
 use Prim.Native.Nat.{ℕ, _+_, _*_}
 
 -- ---- the header
--- slots C (2), used U (2), slot width (2), offset of the first slot (2), eight zero bytes (R103)
+-- slots C (2), used U (2), slot width (2), offset of the first slot (2), purge line (6), two zero
+-- bytes (R103, R257)
 abbrev pub slotsAt : ℕ
 slotsAt = 0
 
@@ -15,8 +16,11 @@ widthAt = 4
 abbrev pub firstAt : ℕ
 firstAt = 6
 
+abbrev pub lineAt : ℕ
+lineAt = 8
+
 abbrev pub headerFillAt : ℕ
-headerFillAt = 8
+headerFillAt = 14
 
 abbrev pub headerWidth : ℕ
 headerWidth = 16

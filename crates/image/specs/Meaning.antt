@@ -6,7 +6,7 @@ use mathlib.Core.List.{List, [], _∷_}
 use lib.ListN.{length}
 use Rattle.entry.specs.Entry.{Entry}
 use Rattle.image.specs.Layout.{keyWidth, valueWidth, mostSlots}
-use Rattle.image.specs.Image.{image, slotsOf, usedOf, entriesOf, allAcceptable, ascending, sound}
+use Rattle.image.specs.Image.{image, slotsOf, usedOf, lineOf, entriesOf, allAcceptable, ascending, sound}
 
 -- an entry whose parts fit the fields of a slot
 pub record Fit (e : Entry) : Type 0 where
@@ -28,16 +28,24 @@ pub record Sound (s : List ℕ) : Type 0 where
   pub room : usedOf s ≤ slotsOf s
   pub each : allAcceptable (entriesOf s) ≡ true
   pub order : ascending (entriesOf s) ≡ true
-  pub bytes : s ≡ image (slotsOf s) (entriesOf s)
+  pub bytes : s ≡ image (slotsOf s) (lineOf s) (entriesOf s)
 
 abbrev pub SoundIs : Type 0
 SoundIs = (s : List ℕ) → sound s ≡ true → Sound s
 
--- the image of acceptable entries in key order that fit its slots is sound (R114)
+-- the image of acceptable entries in key order that fit its slots is sound, with any line (R114, R257)
 abbrev pub SoundImage : Type 0
-SoundImage = (c : ℕ) (es : List Entry) → 1 ≤ c → c ≤ mostSlots → length es ≤ c → AllFit es
-    → allAcceptable es ≡ true → ascending es ≡ true → sound (image c es) ≡ true
+SoundImage = (c line : ℕ) (es : List Entry) → 1 ≤ c → c ≤ mostSlots → line < 2 ^ 48 → length es ≤ c → AllFit es
+    → allAcceptable es ≡ true → ascending es ≡ true → sound (image c line es) ≡ true
 
 -- the entries of an image are read back from it (R193)
 abbrev pub EntriesOfImage : Type 0
-EntriesOfImage = (c : ℕ) (es : List Entry) → AllFit es → length es < 2 ^ 16 → entriesOf (image c es) ≡ es
+EntriesOfImage = (c line : ℕ) (es : List Entry) → AllFit es → length es < 2 ^ 16 → entriesOf (image c line es) ≡ es
+
+-- and so is its line (R257)
+abbrev pub LineOfImage : Type 0
+LineOfImage = (c line : ℕ) (es : List Entry) → line < 2 ^ 48 → lineOf (image c line es) ≡ line
+
+-- the line of a sound store is a time (R4, R257)
+abbrev pub LineIsTime : Type 0
+LineIsTime = (s : List ℕ) → sound s ≡ true → lineOf s < 2 ^ 48

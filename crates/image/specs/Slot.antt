@@ -21,7 +21,7 @@ hasSlot i s = leb (slotStart (i + 1)) (length s)
 unfoldable pub slotWith : Entry → List ℕ → List ℕ
 slotWith e s = cond (eqb (length s) slotWidth) (slotBytes e) s
 
--- a header's bytes with the header of C slots and U used written over them; bytes that are no
--- header stay (R103)
-unfoldable pub headerWith : ℕ → ℕ → List ℕ → List ℕ
-headerWith c u s = cond (eqb (length s) headerWidth) (header c u) s
+-- a header's bytes with the header of C slots, U used and a purge line written over them; bytes that
+-- are no header stay (R103, R257)
+unfoldable pub headerWith : ℕ → ℕ → ℕ → List ℕ → List ℕ
+headerWith c u line s = cond (eqb (length s) headerWidth) (header c u line) s

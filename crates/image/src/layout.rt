@@ -2,7 +2,8 @@
 use entry::MAX_KEY;
 use entry::MAX_VALUE;
 
-// The header: the slots, how many are used, a slot's width, where the first slot starts, zeros.
+// The header: the slots, how many are used, a slot's width, where the first slot starts, the purge
+// line, zeros.
 pub const SLOTS_AT: usize = 0;
 
 pub const USED_AT: usize = 2;
@@ -11,7 +12,9 @@ pub const WIDTH_AT: usize = 4;
 
 pub const FIRST_AT: usize = 6;
 
-pub const HEADER_FILL_AT: usize = 8;
+pub const LINE_AT: usize = 8;
+
+pub const HEADER_FILL_AT: usize = 14;
 
 pub const HEADER_WIDTH: usize = 16;
 

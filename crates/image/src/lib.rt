@@ -21,6 +21,7 @@ use layout::HEADER_FILL_AT;
 use layout::HEADER_WIDTH;
 use layout::KEY_AT;
 use layout::KLEN_AT;
+use layout::LINE_AT;
 use layout::LOGICAL_AT;
 use layout::MAX_SLOTS;
 use layout::NODE_AT;
@@ -38,12 +39,12 @@ use wire::compare;
 use wire::put_be;
 use wire::put_padded;
 ghost use mathlib.Core.Path.{_≡_};
-ghost use Prim.Native.Nat.{_<_};
+ghost use Prim.Native.Nat.{_^_, _<_};
 ghost use lib.ListN.{length, drop};
 ghost use Rattle.checksum.specs.Table.{crcTable};
 ghost use Rattle.entry.specs.Entry.{entryOf};
 ghost use Rattle.image.specs.Layout.{headerWidth, keyAt};
-ghost use Rattle.image.specs.Image.{slotHead, keyIn, flagIn, valueIn, stampIn, slotsOf, usedOf, entriesOf, ascending, sound};
+ghost use Rattle.image.specs.Image.{slotHead, keyIn, flagIn, valueIn, stampIn, slotsOf, usedOf, lineOf, entriesOf, ascending, sound};
 ghost use Rattle.image.specs.Slot.{slotAt, hasSlot, slotWith, headerWith};
 ghost use Rattle.image.specs.Check.{Lengths, sealed, slotSound, slotsSound, shaped};
 
@@ -61,6 +62,14 @@ pub fn used_count(store: &[u8]) -> usize
     ensures small { λ r. ⌜ r < 65536 ⌝ }
 {
     number(store, USED_AT, 2) as usize
+}
+
+// The purge line that a store says it has.
+pub fn purge_line(store: &[u8]) -> u64
+    ensures is { λ r. ⌜ r ≡ lineOf (now (store .entry)) ⌝ }
+    ensures small { λ r. ⌜ r < 2 ^ 48 ⌝ }
+{
+    number(store, LINE_AT, 6)
 }
 
 // Slot i of a store, as much of it as there is.
@@ -230,10 +239,10 @@ fn keys_ascend(store: &[u8]) -> bool
     true
 }
 
-// Writes the header of a store of `slots` slots, none of them used. Bytes that are no header stay
-// as they are.
+// Writes the header of a store of `slots` slots, none of them used, that was never purged. Bytes
+// that are no header stay as they are.
 pub fn put_header(head: &mut [u8], slots: usize)
-    ensures { λ _. ⌜ now (head .exit) ≡ headerWith slots 0 (now (head .entry)) ⌝ }
+    ensures { λ _. ⌜ now (head .exit) ≡ headerWith slots 0 0 (now (head .entry)) ⌝ }
 {
     if head.len() != HEADER_WIDTH {
         return;
@@ -241,7 +250,8 @@ pub fn put_header(head: &mut [u8], slots: usize)
     put_be(&mut head[SLOTS_AT..USED_AT], slots as u64);
     put_be(&mut head[USED_AT..WIDTH_AT], 0);
     put_be(&mut head[WIDTH_AT..FIRST_AT], SLOT_WIDTH as u64);
-    put_be(&mut head[FIRST_AT..HEADER_FILL_AT], HEADER_WIDTH as u64);
+    put_be(&mut head[FIRST_AT..LINE_AT], HEADER_WIDTH as u64);
+    put_be(&mut head[LINE_AT..HEADER_FILL_AT], 0);
     put_be(&mut head[HEADER_FILL_AT..HEADER_WIDTH], 0);
 }
 
@@ -268,7 +278,7 @@ fn is_shaped(store: &[u8]) -> bool
     if number(store, FIRST_AT, 2) != HEADER_WIDTH as u64 {
         return false;
     }
-    all_zero(part(store, HEADER_FILL_AT, 8))
+    all_zero(part(store, HEADER_FILL_AT, 2))
 }
 
 // Whether a store is sound.

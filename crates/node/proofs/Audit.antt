@@ -22,13 +22,13 @@ use Rattle.clock.specs.Clock.{stampOf}
 use Rattle.clock.proofs.Rising.{send-rises}
 use Rattle.frame.specs.Layout.{maxFrame}
 use Rattle.image.specs.Image.{entriesOf, sound}
-use Rattle.store.specs.Held.{_∈_, put, find}
+use Rattle.store.specs.Held.{_∈_, put, find, better}
 use Rattle.store.specs.Answer as answer
 use Rattle.store.specs.Offer.{told}
 use Rattle.store.specs.Overtaken.{overtakenBy, overtaken}
 use Rattle.store.specs.Lookup.{findingFor, valueFor, lookupAnswer, valuePart}
 use Rattle.store.specs.Meaning.{Representable, Keeps}
-use Rattle.store.proofs.HeldLaws.{Ascending, better, find-put, find-mem, find-some}
+use Rattle.store.proofs.HeldLaws.{Ascending, find-put, find-mem, find-some}
 use Rattle.store.proofs.OnSound.{ordered}
 use Rattle.store.proofs.Keeping.{offer-taken, offer-keeps, kept-unchanged}
 use Rattle.node.specs.Handler.{Served, done, refused, gets, serve, serveFrame, settle, handled}

@@ -1,6 +1,5 @@
 -- What a whole call did.
-use Prim.Native.Nat.{ℕ, _^_, _<_}
-use native.Mathlib.Omega.{arith}
+use Prim.Native.Nat.{ℕ, _^_}
 use mathlib.Core.Path.{_≡_, refl, sym, ap, _∙_}
 use mathlib.Core.Logic.{_⊎_, inl, inr}
 use mathlib.Core.Bool.{true, false, _||_}
@@ -10,6 +9,7 @@ use lib.Dec.{ltb, leb, eqb}
 use borrow.Author.Tests.{eqb-true, eqb-false, le-ltb, lt-leb}
 use Rattle.wire.proofs.Tests.{test}
 use Rattle.entry.specs.Entry.{badTime}
+use Rattle.entry.proofs.Numbers.{number-not-zero}
 use Rattle.clock.specs.declared.Clock.{Clock}
 use Rattle.frame.specs.Message.{Message}
 use Rattle.frame.specs.Layout.{maxFrame, typeOf}
@@ -24,10 +24,10 @@ use Rattle.node.proofs.Audit.{refusal-changes-nothing}
 use Rattle.node.proofs.Telling.{Tellable, frame-tellable}
 
 -- ---- a call that passes the checks serves its message
-pub asked : (s : List ℕ) (c : Clock) (now : ℕ) (frame reply : List ℕ) (m : Message) → Asks s c now frame reply m → leb 16 (typeOf m) ≡ false
+pub passed-call : (s : List ℕ) (c : Clock) (now : ℕ) (frame reply : List ℕ) (m : Message) → Asks s c now frame reply m → leb 16 (typeOf m) ≡ false
     → handled s c now frame reply ≡ settle s c reply (serve s c now m)
 unfolding handled serveFrame serveOutcome
-asked s c now frame reply m a q =
+passed-call s c now frame reply m a q =
     let t : leb 16 (typeIn frame) ≡ false = ap (leb 16) (sym (read-has-type frame m (a .reads))) ∙ q in
     rw (le-ltb (length reply) maxFrame (a .room), a .is-sound, lt-leb (2 ^ 48) now (a .time), lt-leb (2 ^ 48) (c .phys) (a .phys), t, a .reads)
 
@@ -39,7 +39,7 @@ pub record Done (s : List ℕ) (c : Clock) (reply : List ℕ) (x : Served) : Typ
 settled-done : (s : List ℕ) (c : Clock) (reply : List ℕ) (x : Served) → Tellable x → settle s c reply x .refusal ≡ 0 → Done s c reply x
 unfolding settle
 settled-done s c reply (done s′ d m) t z = record { says = m; is = refl }
-settled-done s c reply (refused n) t z = let p : 0 < n = t .0 in absurd (omega arith)
+settled-done s c reply (refused n) t z = absurd (number-not-zero (t .0) (t .1 ∙ z))
 
 module _ (s : List ℕ) (c : Clock) (now : ℕ) (frame : List ℕ) where
   -- a frame that is served has passed every check

@@ -36,7 +36,8 @@ module _ (s : List ℕ) (e : Entry) (n : Clock) (s′ : List ℕ) (d : Clock) (m
   by-answer answer.stored q h = (record { taken = rw q; left = cc }, cc)
   by-answer answer.replaced q h = (record { taken = rw q; left = cc }, cc)
   by-answer answer.kept q h = (record { taken = rw q; left = cc }, cc)
-  by-answer answer.merged q h = (record { taken = rw q; left = cc }, cc)
+  by-answer (answer.merged j) q h = (record { taken = rw q; left = cc }, cc)
+  by-answer (answer.purged j) q h = (record { taken = rw q; left = cc }, cc)
   by-answer (answer.refused j) q h = no-done j s′ d m h
 
   offered-done : offered s n e ≡ done s′ d m → Took s e s′ × (n ≡ d)

@@ -1,15 +1,16 @@
--- When a call is refused with 7, and when with 6.
+-- When a call is refused with 7, when with 34, and when with 6.
 use Prim.Native.Nat.{ℕ, _^_, _≤_, _<_}
 use native.Mathlib.Omega.{arith}
 use mathlib.Core.Path.{_≡_, refl, sym, _∙_}
 use mathlib.Core.Logic.{_⊎_, inl, inr}
-use mathlib.Core.Bool.{true, false, _||_}
+use mathlib.Core.Bool.{true, false, not, _||_}
 use mathlib.Core.List.{List, []}
 use mathlib.Core.Option.{Option, none, some}
 use lib.ListN.{length}
 use lib.Dec.{ltb, leb, eqb}
 use borrow.Author.Tests.{lt-ltb, ltb-true, ltb-false, lt-leb, leb-false, not-true}
-use Rattle.wire.proofs.Tests.{test, clash, or-false}
+use Rattle.wire.specs.Number.{Bytes}
+use Rattle.wire.proofs.Tests.{test, clash, false-of, and-true, or-false}
 use Rattle.entry.specs.declared.Stamp.{Stamp}
 use Rattle.entry.specs.Key.{badKey}
 use Rattle.entry.specs.Order.{stampBelow}
@@ -27,28 +28,28 @@ use Rattle.frame.specs.Reading as reading
 use Rattle.frame.proofs.Bodies.{taken, repl-refusal}
 use Rattle.frame.proofs.RoundTrips.{read-is-taken, read-refusals}
 use Rattle.frame.proofs.ByType.{either}
-use Rattle.image.specs.Image.{slotsOf, entriesOf, sound}
-use Rattle.store.specs.Held.{put, find}
+use Rattle.image.specs.Image.{slotsOf, lineOf, entriesOf, sound}
+use Rattle.store.specs.Held.{put, find, isHeld, belowLine}
 use Rattle.store.specs.Offer.{told, offerAnswer}
 use Rattle.store.specs.Overtaken.{overtakenBy, overtaken}
 use Rattle.store.specs.Lookup.{Finding, lookupAnswer, valuePart}
 use Rattle.store.specs.Lookup as lookup
-use Rattle.store.specs.Unchecked.{isHeld}
-use Rattle.store.proofs.HeldLaws.{length-put}
+use Rattle.store.proofs.HeldLaws.{none-of, length-put}
 use Rattle.store.proofs.OnSound.{ordered, held-fits}
 use Rattle.node.specs.Handler.{Served, done, refused, offerServed, offered, writeLocally, takeReplica, gets, serve, serveOutcome, serveFrame, settle}
 use Rattle.node.specs.Handler.{handled}
-use Rattle.node.specs.Meaning.{Asks, LocalWrite, a-put, a-del, Replica, a-repl, OvertakenWrite, FullWrite, OvertakenExactly, FullExactly}
+use Rattle.node.specs.Meaning.{Asks, LocalWrite, a-put, a-del, Replica, a-repl, OvertakenWrite, BelowLineWrite, FullWrite}
+use Rattle.node.specs.Meaning.{OvertakenExactly, BelowLineExactly, FullExactly}
 use Rattle.node.proofs.Telling.{FindingNumbered, lookup-numbered}
-use Rattle.node.proofs.Calls.{asked}
+use Rattle.node.proofs.Calls.{passed-call}
 
--- neither 6 nor 7
+-- none of 7, 34 and 6
 abbrev Other : ℕ → Type 0
-Other n = (n ≡ 6 → ⊥) × (n ≡ 7 → ⊥)
+Other n = (n ≡ 7 → ⊥) × (n ≡ 34 → ⊥) × (n ≡ 6 → ⊥)
 
-other : (n : ℕ) → (n ≤ 5) ⊎ (8 ≤ n) → Other n
-other n (inl h) = (omega arith, omega arith)
-other n (inr h) = (omega arith, omega arith)
+other : (n : ℕ) → (n ≤ 5) ⊎ ((8 ≤ n) × (n ≤ 17)) → Other n
+other n (inl h) = (omega arith, omega arith, omega arith)
+other n (inr h) = (omega (arith, h .0), omega (arith, h .1), omega (arith, h .0))
 
 entry-other : (e : Entry) → Other (refusalOf e)
 unfolding refusalOf
@@ -66,12 +67,26 @@ overtaken-held (some h) t p = (h, refl, not-true (stampBelow (h .stamp) t) p)
 
 -- ---- the reason of a refusal
 module _ (s : List ℕ) (c : Clock) (now : ℕ) (frame reply : List ℕ) where
-  abbrev Why : ℕ → Type 0
-  Why n = Other n ⊎ (((n ≡ 7) × OvertakenWrite s c now frame reply) ⊎ ((n ≡ 6) × FullWrite s c now frame reply))
+  record Why (n : ℕ) : Type 0 where
+    overtakes : n ≡ 7 → OvertakenWrite s c now frame reply
+    below : n ≡ 34 → BelowLineWrite s c now frame reply
+    full : n ≡ 6 → FullWrite s c now frame reply
+
+  plain : (n : ℕ) → Other n → Why n
+  plain n o = record { overtakes = λ e. absurd (o .0 e); below = λ e. absurd (o .1 e); full = λ e. absurd (o .2 e) }
 
   abbrev Reason : Served → Type 0
   Reason (done s′ d m) = Unit {0}
   Reason (refused n) = Why n
+
+  reason-7 : OvertakenWrite s c now frame reply → Why 7
+  reason-7 w = record { overtakes = λ e. w; below = λ e. absurd (omega (arith, e)); full = λ e. absurd (omega (arith, e)) }
+
+  reason-34 : BelowLineWrite s c now frame reply → Why 34
+  reason-34 w = record { overtakes = λ e. absurd (omega (arith, e)); below = λ e. w; full = λ e. absurd (omega (arith, e)) }
+
+  reason-6 : FullWrite s c now frame reply → Why 6
+  reason-6 w = record { overtakes = λ e. absurd (omega (arith, e)); below = λ e. absurd (omega (arith, e)); full = λ e. w }
 
   told-reason : (t : List ℕ) (d : Clock) (e : Entry) (o : Option Entry) → Reason (offerServed t d (told e o))
   unfolding offerServed told
@@ -79,20 +94,20 @@ module _ (s : List ℕ) (c : Clock) (now : ℕ) (frame reply : List ℕ) where
   told-reason t d e (some h) = elim (test (beats e h)) [ inl p ↦ rw p tt | inr p ↦ rw p tt ]
 
   module _ (h : sound s ≡ true) where
-    offer-reason : (d : Clock) (e : Entry) → (slotsOf s < length (put e (entriesOf s)) → FullWrite s c now frame reply) → Reason (offered s d e)
-    unfolding offered offerAnswer offerServed
-    offer-reason d e full = elim (test (eqb (refusalOf e) 0)) [
-      | inl p ↦ elim (test (ltb (slotsOf s) (length (put e (entriesOf s))))) [
-        | inl q ↦ rw (h, p, q) (inr (inr (refl, full (ltb-true _ _ q))))
-        | inr q ↦ rw (h, p, q) (told-reason _ d e (find (e .key) (entriesOf s)))
-      ]
-      | inr p ↦ rw (h, p) (inl (entry-other e))
-    ]
-
     module _ (m : Message) (a : Asks s c now frame reply m) where
-      full-as : (d : Clock) (e : Entry) → LocalWrite c now d m e ⊎ Replica c now d m e → slotsOf s < length (put e (entriesOf s))
-          → FullWrite s c now frame reply
-      full-as d e w l = record { request = m; asks = a; moved = d; entry = e; writes = w; exceeds = l }
+      offer-reason : (d : Clock) (e : Entry) → LocalWrite c now d m e ⊎ Replica c now d m e → Reason (offered s d e)
+      unfolding offered offerAnswer offerServed
+      offer-reason d e w = elim (test (eqb (refusalOf e) 0)) [
+        | inl p ↦ elim (test (belowLine (lineOf s) (entriesOf s) e)) [
+          | inl b ↦ rw (h, p, b) (reason-34 (record { request = m; asks = a; moved = d; entry = e; writes = w; below = b }))
+          | inr b ↦ elim (test (ltb (slotsOf s) (length (put e (entriesOf s))))) [
+            | inl q ↦ rw (h, p, b, q)
+                (reason-6 (record { request = m; asks = a; moved = d; entry = e; writes = w; not-below = b; exceeds = ltb-true _ _ q }))
+            | inr q ↦ rw (h, p, b, q) (told-reason _ d e (find (e .key) (entriesOf s)))
+          ]
+        ]
+        | inr p ↦ rw (h, p) (plain (refusalOf e) (entry-other e))
+      ]
 
       write-reason : (k v : List ℕ) (f : ℕ) → ((d : Clock) → sendStep c now ≡ clock.next d → LocalWrite c now d m (entryOf k v f (stampOf d)))
           → (t : Stepped) → sendStep c now ≡ t → StepNumbered t → Reason (writeLocally s k v f t)
@@ -100,35 +115,35 @@ module _ (s : List ℕ) (c : Clock) (now : ℕ) (frame reply : List ℕ) where
       write-reason k v f w (clock.next d) q n = elim (test (overtakenBy (find k (entriesOf s)) (stampOf d))) [
         | inl p ↦
             let (g, is, below) = overtaken-held (find k (entriesOf s)) (stampOf d) p in
-            rw p (inr (inl (
-              refl,
-              record {
-                request = m;
-                asks = a;
-                sent = d;
-                entry = entryOf k v f (stampOf d);
-                writes = w d q;
-                held = g;
-                is-held = is;
-                not-below = below;
-              },
-            )))
-        | inr p ↦ rw p (offer-reason d (entryOf k v f (stampOf d)) (full-as d (entryOf k v f (stampOf d)) (inl (w d q))))
+            rw p (reason-7 (record {
+              request = m;
+              asks = a;
+              sent = d;
+              entry = entryOf k v f (stampOf d);
+              writes = w d q;
+              held = g;
+              is-held = is;
+              not-below = below;
+            }))
+        | inr p ↦ rw p (offer-reason d (entryOf k v f (stampOf d)) (inl (w d q)))
       ]
-      write-reason k v f w (clock.refused j) q n = inl (other j (inr (n .0)))
+      write-reason k v f w (clock.refused j) q n = plain j (other j (inr (omega arith)))
 
       replica-reason : (e : Entry) → ((d : Clock) → receiveStep c (e .stamp .phys) (e .stamp .logical) now ≡ clock.next d → Replica c now d m e)
           → (t : Stepped) → receiveStep c (e .stamp .phys) (e .stamp .logical) now ≡ t → StepNumbered t → Reason (takeReplica s e t)
       unfolding takeReplica
-      replica-reason e w (clock.next d) q n = offer-reason d e (full-as d e (inr (w d q)))
-      replica-reason e w (clock.refused j) q n = inl (other j (inr (n .0)))
+      replica-reason e w (clock.next d) q n = offer-reason d e (inr (w d q))
+      replica-reason e w (clock.refused j) q n = plain j (other j (inr (omega arith)))
 
     gets-reason : (v : List ℕ) (x : Finding) → FindingNumbered x → Reason (gets s c v x)
     unfolding gets
     gets-reason v (lookup.value at len) n = tt
     gets-reason v lookup.deleted n = tt
     gets-reason v lookup.never n = tt
-    gets-reason v (lookup.refused j) n = inl (other j (inl (n .1)))
+    gets-reason v (lookup.refused j) n = plain j (other j (inl (n .1)))
+
+    no-request : Why 3
+    no-request = plain 3 (other 3 (inl (omega arith)))
 
     serve-reason : (m : Message) → Asks s c now frame reply m → Reason (serve s c now m)
     unfolding serve
@@ -138,29 +153,29 @@ module _ (s : List ℕ) (c : Clock) (now : ℕ) (frame reply : List ℕ) where
     serve-reason (message.repl e) a =
         replica-reason (message.repl e) a e (λ d q. a-repl e q) (receiveStep c (e .stamp .phys) (e .stamp .logical) now) refl
         (receive-numbered c (e .stamp .phys) (e .stamp .logical) now)
-    serve-reason message.ok a = inl (other 3 (inl (omega arith)))
-    serve-reason (message.value v) a = inl (other 3 (inl (omega arith)))
-    serve-reason message.notFound a = inl (other 3 (inl (omega arith)))
-    serve-reason (message.err j) a = inl (other 3 (inl (omega arith)))
+    serve-reason message.ok a = no-request
+    serve-reason (message.value v) a = no-request
+    serve-reason message.notFound a = no-request
+    serve-reason (message.err j) a = no-request
 
     outcome-reason : now < 2 ^ 48 → c .phys < 2 ^ 48 → maxFrame ≤ length reply → (o : Outcome) → readFrame frame ≡ o → Reason (serveOutcome s c now o)
     unfolding serveOutcome
     outcome-reason t p room (reading.message m) q = serve-reason m (record { room = room; is-sound = h; time = t; phys = p; reads = q })
-    outcome-reason t p room (reading.refused j) q = let n = read-refusals frame j q in inl (other j (inl (omega arith)))
+    outcome-reason t p room (reading.refused j) q = let n = read-refusals frame j q in plain j (other j (inl (omega arith)))
 
   frame-reason : maxFrame ≤ length reply → Reason (serveFrame s c now frame)
   unfolding serveFrame
   frame-reason room = elim (test (sound s)) [
     | inl h ↦ elim (test (badTime now || badTime (c .phys))) [
-      | inl p ↦ rw (h, p) (inl (other 9 (inr (omega arith))))
+      | inl p ↦ rw (h, p) (plain 9 (other 9 (inr (omega arith))))
       | inr p ↦ elim (test (leb 16 (typeIn frame))) [
-        | inl q ↦ rw (h, p, q) (inl (other 3 (inl (omega arith))))
+        | inl q ↦ rw (h, p, q) (no-request h)
         | inr q ↦
             let t = or-false (badTime now) (badTime (c .phys)) p in
             rw (h, p, q) (outcome-reason h (leb-false (2 ^ 48) now (t .0)) (leb-false (2 ^ 48) (c .phys) (t .1)) room (readFrame frame) refl)
       ]
     ]
-    | inr h ↦ rw h (inl (other 5 (inl (omega arith))))
+    | inr h ↦ rw h (plain 5 (other 5 (inl (omega arith))))
   ]
 
   settled-why : (n : ℕ) → 0 < n → (x : Served) → Reason x → settle s c reply x .refusal ≡ n → Why n
@@ -168,7 +183,7 @@ module _ (s : List ℕ) (c : Clock) (now : ℕ) (frame reply : List ℕ) where
   settled-why n l (done s′ d m) r e = absurd (omega arith)
   settled-why n l (refused j) r e = rw (← e) r
 
-  -- a call that is refused with 6 or 7
+  -- a call that is refused with more than 5
   call-why : (n : ℕ) → 5 < n → handled s c now frame reply .refusal ≡ n → Why n
   unfolding handled
   call-why n l e = elim (test (ltb (length reply) maxFrame)) [
@@ -177,23 +192,20 @@ module _ (s : List ℕ) (c : Clock) (now : ℕ) (frame reply : List ℕ) where
   ]
 
   pub refused-7 : handled s c now frame reply .refusal ≡ 7 → OvertakenWrite s c now frame reply
-  refused-7 e = elim (call-why 7 (omega arith) e) [
-    | inl o ↦ absurd (o .1 refl)
-    | inr r ↦ elim r [ inl q ↦ q .1 | inr q ↦ absurd (omega (arith, q .0)) ]
-  ]
+  refused-7 e = call-why 7 (omega arith) e .overtakes refl
+
+  pub refused-34 : handled s c now frame reply .refusal ≡ 34 → BelowLineWrite s c now frame reply
+  refused-34 e = call-why 34 (omega arith) e .below refl
 
   pub refused-6 : handled s c now frame reply .refusal ≡ 6 → FullWrite s c now frame reply
-  refused-6 e = elim (call-why 6 (omega arith) e) [
-    | inl o ↦ absurd (o .0 refl)
-    | inr r ↦ elim r [ inl q ↦ absurd (omega (arith, q .0)) | inr q ↦ q .1 ]
-  ]
+  refused-6 e = call-why 6 (omega arith) e .full refl
 
 -- ---- the other way
 module _ (s : List ℕ) (c : Clock) (now : ℕ) (d : Clock) where
   settled-refusal : (frame reply : List ℕ) (m : Message) (n : ℕ) → Asks s c now frame reply m → (serve s c now m ≡ refused n) × (leb 16 (typeOf m) ≡ false)
       → handled s c now frame reply .refusal ≡ n
   unfolding settle
-  settled-refusal frame reply m n a q = rw (asked s c now frame reply m a (q .1), q .0)
+  settled-refusal frame reply m n a q = rw (passed-call s c now frame reply m a (q .1), q .0)
 
   overtaken-write : (m : Message) (e h : Entry) → LocalWrite c now d m e → find (e .key) (entriesOf s) ≡ some h → stampBelow (h .stamp) (e .stamp) ≡ false
       → (serve s c now m ≡ refused 7) × (leb 16 (typeOf m) ≡ false)
@@ -208,23 +220,31 @@ overtaken-exactly s c now frame reply = (
       (overtaken-write s c now (w .sent) (w .request) (w .entry) (w .held) (w .writes) (w .is-held) (w .not-below)),
 )
 
--- ---- a key that does not fit is not held, so its write is not overtaken, and the offer is
--- refused with 6
-module _ (s : List ℕ) (h : sound s ≡ true) (e : Entry) (l : slotsOf s < length (put e (entriesOf s))) where
-  not-held : (o : Option Entry) → find (e .key) (entriesOf s) ≡ o → find (e .key) (entriesOf s) ≡ none
-  unfolding isHeld
-  not-held none q = q
-  not-held (some g) q =
-      let n : length (put e (entriesOf s)) ≡ length (entriesOf s) = length-put e (entriesOf s) (ordered s h) ∙ rw q in
-      absurd (omega (arith, held-fits s h))
+-- ---- 34 and 6: the key is not held, so the write is not overtaken, and its offer is refused
+record TurnedAway (s : List ℕ) (e : Entry) (j : ℕ) : Type 0 where
+  absent : find (e .key) (entriesOf s) ≡ none
+  offer : (d : Clock) → refusalOf e ≡ 0 → offered s d e ≡ refused j
 
-  not-overtaken : (t : Stamp) → overtaken s (e .key) t ≡ false
-  unfolding overtaken overtakenBy
-  not-overtaken t = rw (not-held (find (e .key) (entriesOf s)) refl)
+module _ (s : List ℕ) (h : sound s ≡ true) (e : Entry) where
+  below-absent : belowLine (lineOf s) (entriesOf s) e ≡ true → find (e .key) (entriesOf s) ≡ none
+  unfolding belowLine
+  below-absent b =
+      let held = isHeld (find (e .key) (entriesOf s)) in
+      none-of (find (e .key) (entriesOf s)) (not-true held (and-true (ltb (e .stamp .phys) (lineOf s)) (not held) b .1))
 
-  full-offer : (d : Clock) → refusalOf e ≡ 0 → offered s d e ≡ refused 6
+  below-turned : belowLine (lineOf s) (entriesOf s) e ≡ true → TurnedAway s e 34
   unfolding offered offerAnswer offerServed
-  full-offer d ok = rw (h, ok, lt-ltb (slotsOf s) (length (put e (entriesOf s))) l)
+  below-turned b = record { absent = below-absent b; offer = λ d ok. rw (h, ok, b) }
+
+  full-absent : slotsOf s < length (put e (entriesOf s)) → find (e .key) (entriesOf s) ≡ none
+  full-absent l =
+      none-of (find (e .key) (entriesOf s)) (false-of (isHeld (find (e .key) (entriesOf s))) (λ p.
+      let n : length (put e (entriesOf s)) ≡ length (entriesOf s) = length-put e (entriesOf s) (ordered s h) ∙ rw p in
+      absurd (omega (arith, held-fits s h))))
+
+  full-turned : belowLine (lineOf s) (entriesOf s) e ≡ false → slotsOf s < length (put e (entriesOf s)) → TurnedAway s e 6
+  unfolding offered offerAnswer offerServed
+  full-turned b l = record { absent = full-absent l; offer = λ d ok. rw (h, ok, b, lt-ltb (slotsOf s) (length (put e (entriesOf s))) l) }
 
 -- the entry of a message that was read is acceptable, with the stamp of a clock
 sent-ok : (k v : List ℕ) (f : ℕ) (d : Clock) → d .phys < 2 ^ 48 → badKey k ≡ false → ltb 512 (length v) ≡ false
@@ -232,35 +252,44 @@ sent-ok : (k v : List ℕ) (f : ℕ) (d : Clock) → d .phys < 2 ^ 48 → badKey
 unfolding refusalOf
 sent-ok k v f d p kf vf ff = rw (lt-leb (2 ^ 48) (d .phys) p, kf, vf, ff)
 
-module _ (s : List ℕ) (c : Clock) (now : ℕ) (d : Clock) (h : sound s ≡ true) where
-  full-local : (m : Message) (e : Entry) → LocalWrite c now d m e → messageRefusal m ≡ 0 → slotsOf s < length (put e (entriesOf s))
-      → (serve s c now m ≡ refused 6) × (leb 16 (typeOf m) ≡ false)
-  unfolding serve writeLocally typeOf keyFault valueFault badFlag
-  full-local _ _ (a-put k v q) z l =
-      let e : Entry = entryOf k v 0 (stampOf d) in
-      let t = taken (message.put k v) z in
-      let ok = sent-ok k v 0 d (send-rises c d now q .timely) (t .key) (t .value) refl in
-      (rw (q, not-overtaken s h e l (stampOf d)) (full-offer s h e l d ok), refl)
-  full-local _ _ (a-del k q) z l =
-      let e : Entry = entryOf k [] 1 (stampOf d) in
-      let t = taken (message.del k) z in
-      let ok = sent-ok k [] 1 d (send-rises c d now q .timely) (t .key) refl refl in
-      (rw (q, not-overtaken s h e l (stampOf d)) (full-offer s h e l d ok), refl)
+module _ (s : List ℕ) (c : Clock) (now : ℕ) (d : Clock) (j : ℕ) where
+  turned-local : (m : Message) (e : Entry) → LocalWrite c now d m e → messageRefusal m ≡ 0 → TurnedAway s e j
+      → (serve s c now m ≡ refused j) × (leb 16 (typeOf m) ≡ false)
+  unfolding serve writeLocally overtaken overtakenBy typeOf keyFault valueFault badFlag
+  turned-local _ _ (a-put k v q) z t =
+      let f = taken (message.put k v) z in
+      let ok = sent-ok k v 0 d (send-rises c d now q .timely) (f .key) (f .value) refl in
+      (rw (q, t .absent) (t .offer d ok), refl)
+  turned-local _ _ (a-del k q) z t =
+      let f = taken (message.del k) z in
+      let ok = sent-ok k [] 1 d (send-rises c d now q .timely) (f .key) refl refl in
+      (rw (q, t .absent) (t .offer d ok), refl)
 
-  full-replica : (m : Message) (e : Entry) → Replica c now d m e → messageRefusal m ≡ 0 → slotsOf s < length (put e (entriesOf s))
-      → (serve s c now m ≡ refused 6) × (leb 16 (typeOf m) ≡ false)
+  turned-replica : (m : Message) (e : Entry) → Replica c now d m e → messageRefusal m ≡ 0 → TurnedAway s e j
+      → (serve s c now m ≡ refused j) × (leb 16 (typeOf m) ≡ false)
   unfolding serve takeReplica typeOf
-  full-replica _ _ (a-repl e q) z l = (rw q (full-offer s h e l d (sym (repl-refusal e) ∙ z)), refl)
+  turned-replica _ _ (a-repl e q) z t = (rw q (t .offer d (sym (repl-refusal e) ∙ z)), refl)
 
-  full-write : (m : Message) (e : Entry) → LocalWrite c now d m e ⊎ Replica c now d m e → messageRefusal m ≡ 0
-      → slotsOf s < length (put e (entriesOf s)) → (serve s c now m ≡ refused 6) × (leb 16 (typeOf m) ≡ false)
-  full-write m e (inl w) z l = full-local m e w z l
-  full-write m e (inr w) z l = full-replica m e w z l
+  turned-write : (m : Message) (e : Entry) → LocalWrite c now d m e ⊎ Replica c now d m e → messageRefusal m ≡ 0 → TurnedAway s e j
+      → (serve s c now m ≡ refused j) × (leb 16 (typeOf m) ≡ false)
+  turned-write m e (inl w) z t = turned-local m e w z t
+  turned-write m e (inr w) z t = turned-replica m e w z t
+
+turned-call : (s : List ℕ) (c : Clock) (now : ℕ) (frame reply : List ℕ) → Bytes frame → (j : ℕ) (m : Message) (d : Clock) (e : Entry)
+    → Asks s c now frame reply m → LocalWrite c now d m e ⊎ Replica c now d m e → TurnedAway s e j → handled s c now frame reply .refusal ≡ j
+turned-call s c now frame reply bytes j m d e a w t =
+    settled-refusal s c now d frame reply m j a (turned-write s c now d j m e w (read-is-taken frame m bytes (a .reads) .0) t)
+
+pub below-line-exactly : BelowLineExactly
+below-line-exactly s c now frame reply bytes = (
+  refused-34 s c now frame reply,
+  λ w. turned-call s c now frame reply bytes 34 (w .request) (w .moved) (w .entry) (w .asks) (w .writes)
+      (below-turned s (w .asks .is-sound) (w .entry) (w .below)),
+)
 
 pub full-exactly : FullExactly
 full-exactly s c now frame reply bytes = (
   refused-6 s c now frame reply,
-  λ w. settled-refusal s c now (w .moved) frame reply (w .request) 6 (w .asks)
-      (full-write s c now (w .moved) (w .asks .is-sound) (w .request) (w .entry) (w .writes)
-      (read-is-taken frame (w .request) bytes (w .asks .reads) .0) (w .exceeds)),
+  λ w. turned-call s c now frame reply bytes 6 (w .request) (w .moved) (w .entry) (w .asks) (w .writes)
+      (full-turned s (w .asks .is-sound) (w .entry) (w .not-below) (w .exceeds)),
 )

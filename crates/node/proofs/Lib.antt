@@ -8,3 +8,4 @@ pub mod Audit
 pub mod Calls
 pub mod WholeCalls
 pub mod Exactly
+pub mod Asking

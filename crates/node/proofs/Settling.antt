@@ -49,7 +49,8 @@ module _ (s : List ℕ) (h : sound s ≡ true) (e : Entry) (store′ : List ℕ)
   by-answer answer.stored q p = rw q (offer-served p)
   by-answer answer.replaced q p = rw q (offer-served p)
   by-answer answer.kept q p = rw q (offer-served p)
-  by-answer answer.merged q p = rw q (offer-served p)
+  by-answer (answer.merged n) q p = rw q (offer-served p)
+  by-answer (answer.purged n) q p = rw q (offer-served p)
   by-answer (answer.refused n) q p = rw q (settled-refused s c reply r store′ reply′ n (after ∙ refused-leaves s e n q) p)
 
   pub offer-settled : (o : Offered) → answerOf o ≡ offerUnchecked s e → RepliesToOffer (answerOf o) c next reply r reply′

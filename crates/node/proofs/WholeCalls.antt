@@ -25,10 +25,10 @@ use Rattle.frame.specs.Reading as reading
 use Rattle.frame.proofs.RoundTrips.{read-is-taken}
 use Rattle.frame.proofs.ByType.{either}
 use Rattle.image.specs.Image.{entriesOf, sound}
-use Rattle.store.specs.Held.{put, find}
+use Rattle.store.specs.Held.{put, find, better}
 use Rattle.store.specs.Lookup.{lookupAnswer, valuePart}
 use Rattle.store.specs.Meaning.{Representable, Keeps}
-use Rattle.store.proofs.HeldLaws.{better, find-put}
+use Rattle.store.proofs.HeldLaws.{find-put}
 use Rattle.store.proofs.OnSound.{ordered}
 use Rattle.node.specs.Handler.{Served, done, refused, serve, serveOutcome, serveFrame, settle, handled}
 use Rattle.node.specs.Meaning.{AcceptedCallServes, StaleFrameChangesNothing, CallNeverLosesOrLowers, heldAfter, AcceptedReplicaIsHeld}
@@ -37,7 +37,7 @@ use Rattle.node.specs.Meaning.{GetFrameChangesNothing, GetsAfter, GetFra
 use Rattle.node.proofs.Deeds.{Stays, gets-stays, Offers, replica-done}
 use Rattle.node.proofs.Audit.{unchanged-safe, kept-safe, took-keeps, refusal-changes-nothing, stale-replica-changes-nothing}
 use Rattle.node.proofs.Audit.{get-after-put, get-after-del, never-loses-or-lowers}
-use Rattle.node.proofs.Calls.{CallWrote, asked, served-call, call-deed}
+use Rattle.node.proofs.Calls.{CallWrote, passed-call, served-call, call-deed}
 
 same-message : {o : Outcome} {m n : Message} → o ≡ reading.message m → o ≡ reading.message n → m ≡ n
 same-message p q = cc
@@ -144,7 +144,7 @@ gets-after m k m′ i law s c c′ now now′ frame frame′ reply reply′ n e 
     let p = accepted-call-serves s c now frame reply m z e in
     let q = p .1 in
     let w = never-loses-or-lowers s t c (q .next) now m (q .says) (p .0) n i (q .is) in
-    asked t c′ now′ frame′ reply′ (message.get k) (record { room = room; is-sound = w .0; time = a; phys = b; reads = g }) refl
+    passed-call t c′ now′ frame′ reply′ (message.get k) (record { room = room; is-sound = w .0; time = a; phys = b; reads = g }) refl
     ∙ ap (settle t c′ reply′) (law s t c (q .next) c′ now now′ (q .says) (p .0) n (q .is))
 
 pub get-frame-after-put-frame : GetFrameAfterPutFrame

@@ -32,7 +32,8 @@ unfoldable pub offerServed : List ℕ → Clock → Answer → Served
 offerServed store next answer.stored = done store next message.ok
 offerServed store next answer.replaced = done store next message.ok
 offerServed store next answer.kept = done store next message.ok
-offerServed store next answer.merged = done store next message.ok
+offerServed store next (answer.merged n) = done store next message.ok
+offerServed store next (answer.purged n) = done store next message.ok
 offerServed store next (answer.refused n) = refused n
 
 -- an entry is offered, and the clock goes on to the next one (R134, R135, R139)
@@ -73,7 +74,8 @@ unfoldable pub serveOutcome : List ℕ → Clock → ℕ → Outcome → Served
 serveOutcome store c now (reading.message m) = serve store c now m
 serveOutcome store c now (reading.refused n) = refused n
 
--- 5, 9, 3 (reply types, 16 and above, among them), 1, 2, 8, then 7 or 6 (R32, R142)
+-- 5, 9, 3 (reply types, 16 and above, among them), 1, 2, 8, then 7, 34 or 6: 7 needs a held key,
+-- and 34 one that is not held (R32, R142, R258)
 unfoldable pub serveFrame : List ℕ → Clock → ℕ → List ℕ → Served
 serveFrame store c now frame =
     cond (not (sound store)) (refused 5)

@@ -1,4 +1,5 @@
 pub mod Handler
+pub mod Asked
 pub mod Answer
 pub mod Request
 pub mod Meaning

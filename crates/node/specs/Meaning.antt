@@ -6,8 +6,10 @@ use mathlib.Core.Bool.{true, false, cond}
 use mathlib.Core.List.{List, []}
 use mathlib.Core.Option.{Option, none, some}
 use lib.ListN.{length, take}
+use lib.Dec.{ltb}
 use Rattle.wire.specs.Number.{Bytes}
-use Rattle.entry.specs.Refusal.{lastNumber}
+use Rattle.entry.specs.Refusal.{Numbered}
+use Rattle.entry.specs.Key.{badKey}
 use Rattle.entry.specs.Order.{stampBelow}
 use Rattle.entry.specs.Entry.{Entry, entryOf, beats}
 use Rattle.clock.specs.declared.Clock.{Clock}
@@ -15,11 +17,12 @@ use Rattle.clock.specs.Clock.{next, stampOf, sendStep, receiveStep}
 use Rattle.frame.specs.Message.{Message, put, get, del, repl, value, notFound, err, keyOf, InRange}
 use Rattle.frame.specs.Layout.{maxFrame}
 use Rattle.frame.specs.Reading.{message, readFrame}
-use Rattle.image.specs.Image.{slotsOf, entriesOf, sound}
-use Rattle.store.specs.Held.{_∈_, put as putEntry, find}
+use Rattle.image.specs.Image.{slotsOf, lineOf, entriesOf, sound}
+use Rattle.store.specs.Held.{_∈_, put as putEntry, find, belowLine}
 use Rattle.store.specs.Offer.{afterOffer}
 use Rattle.store.specs.Meaning.{Representable}
 use Rattle.node.specs.Handler.{Result, done, serve, settle, handled}
+use Rattle.node.specs.Asked.{Asked, refusal, lookUp, localWrite, replica, asked, answerTo}
 
 -- a message is served, and leaves the store s′
 pub record Serves (s : List ℕ) (c : Clock) (now : ℕ) (m : Message) (s′ : List ℕ) : Type 0 where
@@ -62,12 +65,12 @@ abbrev pub NeverLosesOrLowers : Type 0
 NeverLosesOrLowers = (s s′ : List ℕ) (c d : Clock) (now : ℕ) (m m′ : Message) → sound s ≡ true → c .node < 2 ^ 8 → InRange m
     → serve s c now m ≡ done s′ d m′ → (sound s′ ≡ true) × ((h : Entry) → h ∈ entriesOf s → StillHeld h (entriesOf s′))
 
--- the bytes written by a call read as a message; a refusal has a number, at most the last one, and
--- the message is its ERR (R30)
+-- the bytes written by a call read as a message; the refusal is 0 for none, or one of the numbers,
+-- and the message is then its ERR (R7, R30)
 pub record ReadsBack (x : Result) : Type 0 where
   pub says : Message
   pub reads : readFrame (take (x .written) (x .reply)) ≡ message says
-  pub numbered : x .refusal ≤ lastNumber
+  pub numbered : (x .refusal ≡ 0) ⊎ Numbered (x .refusal)
   pub tells : (x .refusal ≡ 0 → ⊥) → says ≡ err (x .refusal)
 
 -- every reply reads back, where the reply buffer has room (R30)
@@ -155,7 +158,7 @@ abbrev pub FoundOrOffered : Type 0
 FoundOrOffered = (s : List ℕ) (c : Clock) (now : ℕ) (frame reply : List ℕ) → Bytes frame → c .node < 2 ^ 8
     → (handled s c now frame reply .store ≡ s) ⊎ AfterOffer s (handled s c now frame reply .store)
 
--- ---- 7 and 6, exactly
+-- ---- 7, 34 and 6, exactly
 -- a call passes the checks 4, 5, 9, 3, 1 and 2, and asks m (R32)
 pub record Asks (s : List ℕ) (c : Clock) (now : ℕ) (frame reply : List ℕ) (m : Message) : Type 0 where
   pub room : maxFrame ≤ length reply
@@ -185,19 +188,59 @@ pub record OvertakenWrite (s : List ℕ) (c : Clock) (now : ℕ) (frame reply : 
   pub is-held : find (entry .key) (entriesOf s) ≡ some held
   pub not-below : stampBelow (held .stamp) (entry .stamp) ≡ false
 
--- a write with which the distinct keys held would exceed the slots (R13)
+-- a write with a phys below the purge line, of a key that is not held (R258)
+pub record BelowLineWrite (s : List ℕ) (c : Clock) (now : ℕ) (frame reply : List ℕ) : Type 0 where
+  pub request : Message
+  pub asks : Asks s c now frame reply request
+  pub moved : Clock
+  pub entry : Entry
+  pub writes : LocalWrite c now moved request entry ⊎ Replica c now moved request entry
+  pub below : belowLine (lineOf s) (entriesOf s) entry ≡ true
+
+-- a write not below the line, with which the distinct keys held would exceed the slots (R13, R258)
 pub record FullWrite (s : List ℕ) (c : Clock) (now : ℕ) (frame reply : List ℕ) : Type 0 where
   pub request : Message
   pub asks : Asks s c now frame reply request
   pub moved : Clock
   pub entry : Entry
   pub writes : LocalWrite c now moved request entry ⊎ Replica c now moved request entry
+  pub not-below : belowLine (lineOf s) (entriesOf s) entry ≡ false
   pub exceeds : slotsOf s < length (putEntry entry (entriesOf s))
 
 -- a call is refused with 7 exactly if it is such a local write (R14)
 abbrev pub OvertakenExactly : Type 0
 OvertakenExactly = (s : List ℕ) (c : Clock) (now : ℕ) (frame reply : List ℕ) → handled s c now frame reply .refusal ≡ 7 ↔ OvertakenWrite s c now frame reply
 
+-- with 34 exactly if it is such a write (R258)
+abbrev pub BelowLineExactly : Type 0
+BelowLineExactly = (s : List ℕ) (c : Clock) (now : ℕ) (frame reply : List ℕ) → Bytes frame
+    → handled s c now frame reply .refusal ≡ 34 ↔ BelowLineWrite s c now frame reply
+
 -- and with 6 exactly if it is such a write (R13)
 abbrev pub FullExactly : Type 0
 FullExactly = (s : List ℕ) (c : Clock) (now : ℕ) (frame reply : List ℕ) → Bytes frame → handled s c now frame reply .refusal ≡ 6 ↔ FullWrite s c now frame reply
+
+-- ---- a request apart from the store
+-- a call on a sound store is answered by what it asks, and the store (R32, R261)
+abbrev pub AnsweredAsAsked : Type 0
+AnsweredAsAsked = (s : List ℕ) (c : Clock) (now : ℕ) (frame reply : List ℕ) → sound s ≡ true → ltb (length reply) maxFrame ≡ false
+    → handled s c now frame reply ≡ settle s c reply (answerTo s c (asked c now frame reply))
+
+-- the entry that a request brings is one that `offer` can be given, and a key that it looks up is
+-- acceptable (R5, R6, R261)
+abbrev pub AskedFits : Asked → Type 0
+AskedFits (refusal n) = Unit {0}
+AskedFits (lookUp k) = badKey k ≡ false
+AskedFits (localWrite d e) = Representable e
+AskedFits (replica d e) = Representable e
+
+-- of every request (R261)
+abbrev pub EachAskedFits : Type 0
+EachAskedFits = (c : Clock) (now : ℕ) (frame reply : List ℕ) → Bytes frame → c .node < 2 ^ 8 → AskedFits (asked c now frame reply)
+
+-- with a short reply buffer a request asks for nothing but 4, whatever else is given, and the call
+-- leaves the store, the clock and the buffer as they came (R11)
+abbrev pub ShortReplyRefused : Type 0
+ShortReplyRefused = (s : List ℕ) (c : Clock) (now : ℕ) (frame reply : List ℕ) → ltb (length reply) maxFrame ≡ true
+    → (asked c now frame reply ≡ refusal 4)
+    × (handled s c now frame reply ≡ record { store = s; clock = c; reply = reply; written = 0; refusal = 4 })

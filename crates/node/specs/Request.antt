@@ -50,7 +50,8 @@ abbrev pub RepliesToOffer : Answer → Clock → Clock → List ℕ → Handled 
 RepliesToOffer answer.stored c next reply r reply′ = Replies next ok 0 reply r reply′
 RepliesToOffer answer.replaced c next reply r reply′ = Replies next ok 0 reply r reply′
 RepliesToOffer answer.kept c next reply r reply′ = Replies next ok 0 reply r reply′
-RepliesToOffer answer.merged c next reply r reply′ = Replies next ok 0 reply r reply′
+RepliesToOffer (answer.merged n) c next reply r reply′ = Replies next ok 0 reply r reply′
+RepliesToOffer (answer.purged n) c next reply r reply′ = Replies next ok 0 reply r reply′
 RepliesToOffer (answer.refused n) c next reply r reply′ = Refuses c n reply r reply′
 
 -- a request may be served: the store is sound, and the reply has room for any frame

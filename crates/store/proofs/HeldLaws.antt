@@ -12,8 +12,7 @@ use Rattle.wire.proofs.Tests.{test, clash, false-of}
 use Rattle.wire.proofs.Order.{sameBytes-eq, sameBytes-refl, bytesBelow-trans, bytesBelow-irrefl, bytesBelow-tied}
 use Rattle.entry.specs.Order.{keyBelow}
 use Rattle.entry.specs.Entry.{Entry, beats}
-use Rattle.store.specs.Held.{_∈_, put, putAll, find}
-use Rattle.store.specs.Unchecked.{isHeld}
+use Rattle.store.specs.Held.{_∈_, put, putAll, find, isHeld, better}
 
 -- every entry has a key above k
 abbrev pub Above : List ℕ → List Entry → Type 0
@@ -101,11 +100,6 @@ pub find-none : (k : List ℕ) (hs : List Entry) → Above k hs → find k hs �
 unfolding find
 find-none k [] a = refl
 find-none k (h ∷ hs) a = rw (below-differ k (h .key) (a h (head refl))) (find-none k hs (λ d m. a d (tail m)))
-
--- of an entry and what was held of its key, the one that is held next
-unfoldable pub better : Entry → Option Entry → Option Entry
-better e none = some e
-better e (some h) = cond (beats e h) (some e) (some h)
 
 pub find-put : (k : List ℕ) (e : Entry) (hs : List Entry) → Ascending hs
     → find k (put e hs) ≡ cond (sameBytes k (e .key)) (better e (find k hs)) (find k hs)

@@ -3,7 +3,7 @@ use Prim.Native.Nat.{ℕ, _≤_}
 use native.Mathlib.Omega.{arith}
 use mathlib.Core.Path.{_≡_, refl, sym, ap, _∙_}
 use mathlib.Core.Logic.{_⊎_, inl, inr}
-use mathlib.Core.Bool.{true, false}
+use mathlib.Core.Bool.{true, false, and-false}
 use mathlib.Core.List.{List, [], _∷_, List·Memᴰ·head as head, List·Memᴰ·tail as tail}
 use mathlib.Core.Option.{Option, none, some}
 use lib.ListN.{length}
@@ -14,32 +14,38 @@ use Rattle.wire.proofs.Order.{sameBytes-refl}
 use Rattle.entry.specs.Entry.{Entry, Acceptable, beats, refusalOf}
 use Rattle.entry.proofs.Accept.{accepted}
 use Rattle.entry.proofs.EntryOrder.{beats-irrefl}
-use Rattle.image.specs.Image.{image, slotsOf, entriesOf, allAcceptable, ascending, sound}
+use Rattle.image.specs.Image.{image, slotsOf, lineOf, entriesOf, allAcceptable, ascending, sound}
 use Rattle.wire.proofs.Compared.{distinct}
 use Rattle.image.proofs.SlotLaws.{fits}
-use Rattle.image.proofs.ImageLaws.{used-is, sound-is, sound-image, slots-of-image, entries-of-image}
-use Rattle.store.specs.Held.{_∈_, put, putAll, find}
+use Rattle.image.proofs.ImageLaws.{used-is, sound-is, sound-image, slots-of-image, line-of-image, entries-of-image}
+use Rattle.store.specs.Held.{_∈_, put, putAll, find, isHeld, better, belowLine}
 use Rattle.store.specs.Answer.{Answer, stored, replaced, kept, isRefused}
 use Rattle.store.specs.Create.{freshStore}
 use Rattle.store.specs.Lookup.{valueFor, lookupAnswer, valuePart}
 use Rattle.store.specs.Offer.{told, offerAnswer, afterOffer}
-use Rattle.store.specs.Merge.{mergeAnswer, afterMerge}
+use Rattle.store.specs.Merge.{taken, mergedEntries, mergeAnswer, afterMerge}
 use Rattle.store.specs.Meaning.{Representable, Keeps, FreshKeeps, OfferKeeps, MergeKeeps, KeptUnchanged, HeldIsKept, Finds, FoundAfterOffer}
-use Rattle.store.proofs.HeldLaws.{mem-put, putAll-ascending, better, find-put, find-mem}
-use Rattle.store.proofs.Seeking.{seen-find, put-seen}
+use Rattle.store.proofs.HeldLaws.{mem-put, putAll-ascending, find-put, find-mem}
+use Rattle.store.proofs.Seeking.{seen-find, put-seen, mem-taken}
 use Rattle.store.proofs.OnSound.{ordered, image-keeps, fits-held, accepts-held, put-keeps}
 
 pub fresh-keeps : FreshKeeps
 unfolding freshStore allAcceptable ascending
-fresh-keeps c lo hi = (sound-image c [] lo hi (omega arith) tt refl refl, slots-of-image c [] (omega arith), entries-of-image c [] tt (omega arith))
+fresh-keeps c lo hi = (
+  sound-image c 0 [] lo hi (omega arith) (omega arith) tt refl refl,
+  slots-of-image c 0 [] (omega arith),
+  line-of-image c 0 [] (omega arith),
+  entries-of-image c 0 [] tt (omega arith),
+)
 
 unchanged : (s : List ℕ) → sound s ≡ true → Keeps s (entriesOf s) s
-unchanged s h = record { sound = h; slots = refl; holds = refl }
+unchanged s h = record { sound = h; slots = refl; line = refl; holds = refl }
 
 -- ---- what an offer's answer says
 pub record OfferTaken (s : List ℕ) (e : Entry) : Type 0 where
   pub sound : sound s ≡ true
   pub ok : Acceptable e
+  pub above : belowLine (lineOf s) (entriesOf s) e ≡ false
   pub room : length (put e (entriesOf s)) ≤ slotsOf s
   pub told : offerAnswer s e ≡ told e (find (e .key) (entriesOf s))
 
@@ -47,19 +53,22 @@ pub offer-taken : (s : List ℕ) (e : Entry) → isRefused (offerAnswer s e) ≡
 unfolding offerAnswer isRefused
 offer-taken s e n = elim (test (sound s)) [
   | inl p ↦ elim (test (eqb (refusalOf e) 0)) [
-    | inl q ↦ elim (test (ltb (slotsOf s) (length (put e (entriesOf s))))) [
-      | inl r ↦ clash refl (rw (p, q, r) at n)
-      | inr r ↦ record { sound = p; ok = eqb-true _ _ q; room = ltb-false _ _ r; told = rw (p, q, r) }
+    | inl q ↦ elim (test (belowLine (lineOf s) (entriesOf s) e)) [
+      | inl b ↦ clash refl (rw (p, q, b) at n)
+      | inr b ↦ elim (test (ltb (slotsOf s) (length (put e (entriesOf s))))) [
+        | inl r ↦ clash refl (rw (p, q, b, r) at n)
+        | inr r ↦ record { sound = p; ok = eqb-true _ _ q; above = b; room = ltb-false _ _ r; told = rw (p, q, b, r) }
+      ]
     ]
     | inr q ↦ clash refl (rw (p, q) at n)
   ]
   | inr p ↦ clash refl (rw p at n)
 ]
 
-taken : (s : List ℕ) (e : Entry) (a : Answer) → offerAnswer s e ≡ a → isRefused a ≡ false → OfferTaken s e
-taken s e a p n = offer-taken s e (ap isRefused p ∙ n)
+took : (s : List ℕ) (e : Entry) (a : Answer) → offerAnswer s e ≡ a → isRefused a ≡ false → OfferTaken s e
+took s e a p n = offer-taken s e (ap isRefused p ∙ n)
 
-after-taken : (s : List ℕ) (e : Entry) → isRefused (offerAnswer s e) ≡ false → afterOffer s e ≡ image (slotsOf s) (put e (entriesOf s))
+after-taken : (s : List ℕ) (e : Entry) → isRefused (offerAnswer s e) ≡ false → afterOffer s e ≡ image (slotsOf s) (lineOf s) (put e (entriesOf s))
 unfolding afterOffer
 after-taken s e n = rw n
 
@@ -81,22 +90,42 @@ mem-putAll (g ∷ gs) es m = elim (mem-putAll gs (put g es) m) [
   | inr p ↦ elim (mem-put g es p) [ inl q ↦ inl (head q) | inr q ↦ inr q ]
 ]
 
-merge-room : (r g : List ℕ) → sound r ≡ true → sound g ≡ true → isRefused (mergeAnswer r g) ≡ false → length (putAll (entriesOf g) (entriesOf r)) ≤ slotsOf r
+-- what a merge's answer says
+pub record MergeTaken (r g : List ℕ) : Type 0 where
+  pub receiver : sound r ≡ true
+  pub giver : sound g ≡ true
+  pub lines : lineOf r ≡ lineOf g
+  pub room : length (mergedEntries r g) ≤ slotsOf r
+
+pub merge-taken : (r g : List ℕ) → isRefused (mergeAnswer r g) ≡ false → MergeTaken r g
 unfolding mergeAnswer isRefused
-merge-room r g h k n = elim (test (ltb (slotsOf r) (length (putAll (entriesOf g) (entriesOf r))))) [
-  | inl p ↦ clash refl (rw (h, k, p) at n)
-  | inr p ↦ ltb-false _ _ p
+merge-taken r g n = elim (test (sound r)) [
+  | inl p ↦ elim (test (sound g)) [
+    | inl q ↦ elim (test (eqb (lineOf r) (lineOf g))) [
+      | inl l ↦ elim (test (ltb (slotsOf r) (length (mergedEntries r g)))) [
+        | inl t ↦ clash refl (rw (p, q, l, t) at n)
+        | inr t ↦ record { receiver = p; giver = q; lines = eqb-true _ _ l; room = ltb-false _ _ t }
+      ]
+      | inr l ↦ clash refl (rw (p, q, l) at n)
+    ]
+    | inr q ↦ clash refl (rw (p, q) at n)
+  ]
+  | inr p ↦ clash refl (rw p at n)
 ]
 
 pub merge-keeps : MergeKeeps
-unfolding afterMerge
-merge-keeps r g h k = elim (test (isRefused (mergeAnswer r g))) [
-  | inl p ↦ rw p (unchanged r h)
-  | inr p ↦ rw p (image-keeps r (putAll (entriesOf g) (entriesOf r)) h (merge-room r g h k p)
-      (λ d m. elim (mem-putAll (entriesOf g) (entriesOf r) m) [ inl q ↦ fits-held g k d q | inr q ↦ fits-held r h d q ])
-      (λ d m. elim (mem-putAll (entriesOf g) (entriesOf r) m) [ inl q ↦ accepts-held g k d q | inr q ↦ accepts-held r h d q ])
-      (putAll-ascending (entriesOf g) (entriesOf r) (ordered r h)))
-]
+unfolding afterMerge mergedEntries
+merge-keeps r g h k =
+    let gs = entriesOf g in
+    let es = entriesOf r in
+    let ts = taken (lineOf r) es gs in
+    elim (test (isRefused (mergeAnswer r g))) [
+      | inl p ↦ rw p (unchanged r h)
+      | inr p ↦ rw p (image-keeps r (putAll ts es) h (merge-taken r g p .room)
+          (λ d m. elim (mem-putAll ts es m) [ inl q ↦ fits-held g k d (mem-taken (lineOf r) es gs q) | inr q ↦ fits-held r h d q ])
+          (λ d m. elim (mem-putAll ts es m) [ inl q ↦ accepts-held g k d (mem-taken (lineOf r) es gs q) | inr q ↦ accepts-held r h d q ])
+          (putAll-ascending ts es (ordered r h)))
+    ]
 
 -- ---- kept
 -- an entry that is told as kept was held and not beaten
@@ -111,18 +140,26 @@ told-kept e (some h) p = elim (test (beats e h)) [
 pub kept-unchanged : KeptUnchanged
 unfolding isRefused
 kept-unchanged s e p =
-    let t = taken s e kept p refl in
+    let t = took s e kept p refl in
     let (h, o, b) = told-kept e (find (e .key) (entriesOf s)) (sym (t .told) ∙ p) in
     let q = put-seen e (entriesOf s) h (seen-find (e .key) (entriesOf s) (ordered s (t .sound)) ∙ o) in
-    after-taken s e (ap isRefused p) ∙ ap (image (slotsOf s)) (q ∙ rw b) ∙ sym (sound-is s (t .sound) .bytes)
+    after-taken s e (ap isRefused p) ∙ ap (image (slotsOf s) (lineOf s)) (q ∙ rw b) ∙ sym (sound-is s (t .sound) .bytes)
 
 pub held-is-kept : HeldIsKept
-unfolding offerAnswer told
+unfolding offerAnswer told belowLine isHeld
 held-is-kept s e h m =
     let es = entriesOf s in
     let f = find-mem es (ordered s h) m in
     let p : put e es ≡ es = put-seen e es e (seen-find (e .key) es (ordered s h) ∙ f) ∙ rw (beats-irrefl e) in
-    rw (h, eq-eqb (refusalOf e) 0 (accepts-held s h e m), p, le-ltb (slotsOf s) (length es) (omega (arith, used-is s, sound-is s h .room)), f, beats-irrefl e)
+    rw (
+      h,
+      eq-eqb (refusalOf e) 0 (accepts-held s h e m),
+      p,
+      le-ltb (slotsOf s) (length es) (omega (arith, used-is s, sound-is s h .room)),
+      f,
+      and-false (ltb (e .stamp .phys) (lineOf s)),
+      beats-irrefl e,
+    )
 
 -- ---- found
 told-new : (e : Entry) (o : Option Entry) → (told e o ≡ stored) ⊎ (told e o ≡ replaced) → better e o ≡ some e
@@ -155,6 +192,6 @@ found s e r n w =
 pub found-after-offer : FoundAfterOffer
 unfolding isRefused
 found-after-offer s e r w = elim w [
-  | inl p ↦ found s e r (ap isRefused p) (inl (sym (taken s e stored p refl .told) ∙ p))
-  | inr p ↦ found s e r (ap isRefused p) (inr (sym (taken s e replaced p refl .told) ∙ p))
+  | inl p ↦ found s e r (ap isRefused p) (inl (sym (took s e stored p refl .told) ∙ p))
+  | inr p ↦ found s e r (ap isRefused p) (inr (sym (took s e replaced p refl .told) ∙ p))
 ]

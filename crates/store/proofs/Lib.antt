@@ -10,3 +10,6 @@ pub mod Looking
 pub mod Listings
 pub mod Ways
 pub mod Overtaking
+pub mod Closing
+pub mod Purging
+pub mod Purges

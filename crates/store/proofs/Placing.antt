@@ -7,15 +7,15 @@ use mathlib.Core.Logic.{_⊎_, inl, inr}
 use mathlib.Core.List.{List}
 use mathlib.Core.Option.{Option, none, some}
 use lib.ListN.{length}
-use lib.Dec.{leb, eqb}
+use lib.Dec.{ltb, leb, eqb}
 use borrow.Author.Tests.{leb-true}
 use Rattle.wire.proofs.Tests.{test}
 use Rattle.entry.specs.declared.Refusal.{Refusal}
-use Rattle.entry.specs.declared.Refusal.the-variants.{BadStore, StoreFull}
+use Rattle.entry.specs.declared.Refusal.the-variants.{BadStore, StoreFull, BelowLine}
 use Rattle.entry.specs.Refusal.{number}
 use Rattle.entry.specs.Entry.{Entry, beats, refusalOf}
 use Rattle.image.specs.Layout.{slotStart}
-use Rattle.image.specs.Image.{slotBytes, slotsOf, usedOf, entriesOf}
+use Rattle.image.specs.Image.{slotBytes, slotsOf, usedOf, lineOf, entriesOf}
 use Rattle.image.specs.Slot.{slotAt, hasSlot}
 use Rattle.wire.proofs.Compared.{distinct}
 use Rattle.image.proofs.SlotLaws.{length-slot}
@@ -56,13 +56,16 @@ module _ (s : List ℕ) (e : Entry) where
 
   fits-for : (o : Option Entry) → Fitting s (placementFor s e o) × There s e (placementFor s e o)
   unfolding placementFor
-  fits-for none = elim (test (leb (slotsOf s) (usedOf s))) [
-    | inl p ↦ rw p (tt, refused-there s e StoreFull)
-    | inr p ↦ elim (test (hasSlot (usedOf s) s)) [
-      | inl q ↦
-          let f = leb-true (slotStart (usedOf s + 1)) (length s) q in
-          rw (p, q) ((within, f), λ t. slot-inserted i s within f (slotBytes e) (length-slot e))
-      | inr q ↦ rw (p, q) (tt, refused-there s e BadStore)
+  fits-for none = elim (test (ltb (e .stamp .phys) (lineOf s))) [
+    | inl b ↦ rw b (tt, refused-there s e BelowLine)
+    | inr b ↦ elim (test (leb (slotsOf s) (usedOf s))) [
+      | inl p ↦ rw (b, p) (tt, refused-there s e StoreFull)
+      | inr p ↦ elim (test (hasSlot (usedOf s) s)) [
+        | inl q ↦
+            let f = leb-true (slotStart (usedOf s + 1)) (length s) q in
+            rw (b, p, q) ((within, f), λ t. slot-inserted i s within f (slotBytes e) (length-slot e))
+        | inr q ↦ rw (b, p, q) (tt, refused-there s e BadStore)
+      ]
     ]
   ]
   fits-for (some g) = elim (test (beats e g)) [

@@ -4,10 +4,11 @@ use native.Mathlib.Omega.{arith}
 use native.Mathlib.Numerals.{add-one}
 use mathlib.Core.Path.{_≡_, refl, sym, ap, _∙_}
 use mathlib.Core.Logic.{inl, inr}
-use mathlib.Core.Bool.{Bool, true, false, cond}
-use mathlib.Core.List.{List, [], _∷_, _++_, List·Memᴰ·head as head, List·Memᴰ·tail as tail}
+use mathlib.Core.Bool.{Bool, true, false, cond, not, _&&_, and-false}
+use mathlib.Core.List.{List, [], _∷_, _++_, List·Memᴰ·head as head, List·Memᴰ·tail as tail, List·Memᴰ·cases-cons as mem-cons, List·Memᴰ·not-nil as mem-nil}
 use mathlib.Core.Option.{none, some, Option·none-ne-some, Option·some-injective}
 use lib.ListN.{length, take, drop, drop-of-length-le}
+use lib.Dec.{ltb}
 use Rattle.wire.specs.Order.{sameBytes, comparison}
 use Rattle.wire.specs.declared.Comparison.{Comparison}
 use Rattle.wire.specs.declared.Comparison.the-variants as order
@@ -15,8 +16,9 @@ use Rattle.wire.proofs.Tests.{test}
 use Rattle.entry.specs.Order.{keyBelow}
 use Rattle.entry.specs.Entry.{Entry, beats}
 use Rattle.wire.proofs.Compared.{came-below, came-same, came-above}
-use Rattle.store.specs.Held.{put, putAll, find, indexOf}
-use Rattle.store.specs.Unchecked.{seek, seen, isHeld, Placed, countNew}
+use Rattle.store.specs.Held.{_∈_, put, putAll, find, isHeld, belowLine, indexOf}
+use Rattle.store.specs.Merge.{taken, passedOver}
+use Rattle.store.specs.Unchecked.{seek, seen, Placed, countNew, countPassed}
 use Rattle.store.proofs.HeldLaws.{Above, Ascending, above-trans, above-cons, above-differ, put-ascending, find-none, find-put, length-put}
 
 -- ---- a loop that seeks a key, at entry i
@@ -140,28 +142,97 @@ unfolding putAll
 put-all-grows [] es a = omega arith
 put-all-grows (g ∷ gs) es a = omega (arith, put-grows g es a, put-all-grows gs (put g es) (put-ascending g es a))
 
--- ---- how many entries a merge makes
+-- ---- an entry below a line, by what is seen of its key
+pub below-seen : (line : ℕ) (es : List Entry) (e : Entry) → Ascending es
+    → belowLine line es e ≡ (ltb (e .stamp .phys) line && not (isHeld (seen (e .key) es)))
+unfolding belowLine
+below-seen line es e a = rw (seen-find (e .key) es a)
+
+-- ---- what a merge takes, and how many entries it makes
+-- an entry that is put in changes nothing of the keys above it
+find-above : (k : List ℕ) (g : Entry) (es : List Entry) → Ascending es → keyBelow (g .key) k ≡ true → find k (put g es) ≡ find k es
+find-above k g es a h = find-put k g es a ∙ rw (above-differ (g .key) k h)
+
 seen-put : (k : List ℕ) (g : Entry) (es : List Entry) → Ascending es → keyBelow (g .key) k ≡ true → seen k (put g es) ≡ seen k es
-seen-put k g es a h =
-    seen-find k (put g es) (put-ascending g es a) ∙ find-put k g es a
-    ∙ rw (above-differ (g .key) k h) (sym (seen-find k es a))
+seen-put k g es a h = seen-find k (put g es) (put-ascending g es a) ∙ find-above k g es a h ∙ sym (seen-find k es a)
 
-count-put : (g : Entry) (es gs : List Entry) → Ascending es → Above (g .key) gs → countNew (put g es) gs ≡ countNew es gs
-unfolding countNew
-count-put g es [] a b = refl
-count-put g es (h ∷ gs) a b = rw (seen-put (h .key) g es a (b h (head refl)), count-put g es gs a (λ d m. b d (tail m)))
+module _ (line : ℕ) where
+  pub taken-put : (g : Entry) (es gs : List Entry) → Ascending es → Above (g .key) gs → taken line (put g es) gs ≡ taken line es gs
+  unfolding taken belowLine
+  taken-put g es [] a b = refl
+  taken-put g es (h ∷ gs) a b = rw (find-above (h .key) g es a (b h (head refl)), taken-put g es gs a (λ d m. b d (tail m)))
 
-pub length-put-all : (gs es : List Entry) → Ascending gs → Ascending es → length (putAll gs es) ≡ length es + countNew es gs
-unfolding putAll countNew
-length-put-all [] es b a = omega arith
-length-put-all (g ∷ gs) es b a =
-    length-put-all gs (put g es) (b .1) (put-ascending g es a) ∙ rw (count-put g es gs a (b .0), put-length g es a)
-    (elim (test (isHeld (seen (g .key) es))) [ inl p ↦ rw p (omega arith) | inr p ↦ rw p (omega arith) ])
+  count-put : (g : Entry) (es gs : List Entry) → Ascending es → Above (g .key) gs → countNew line (put g es) gs ≡ countNew line es gs
+  unfolding countNew
+  count-put g es [] a b = refl
+  count-put g es (h ∷ gs) a b = rw (seen-put (h .key) g es a (b h (head refl)), count-put g es gs a (λ d m. b d (tail m)))
 
-pub count-most : (es gs : List Entry) → countNew es gs ≤ length gs
-unfolding countNew
-count-most es [] = omega arith
-count-most es (g ∷ gs) = elim (test (isHeld (seen (g .key) es))) [
-  | inl p ↦ rw p (omega (arith, count-most es gs))
-  | inr p ↦ rw p (omega (arith, count-most es gs))
-]
+  pub length-put-all : (gs es : List Entry) → Ascending gs → Ascending es → length (putAll (taken line es gs) es) ≡ length es + countNew line es gs
+  unfolding putAll taken countNew
+  length-put-all [] es b a = omega arith
+  length-put-all (g ∷ gs) es b a =
+      let step : length (putAll (taken line es gs) (put g es)) ≡ length (put g es) + countNew line es gs =
+      ap (λ (l : List Entry). length (putAll l (put g es))) (sym (taken-put g es gs a (b .0))) ∙ length-put-all gs (put g es) (b .1) (put-ascending g es a)
+      ∙ ap (λ (n : ℕ). length (put g es) + n) (count-put g es gs a (b .0)) in
+      rw (below-seen line es g a) (elim (test (isHeld (seen (g .key) es))) [
+        | inl p ↦
+            let same : length (put g es) ≡ length es = put-length g es a ∙ rw p in
+            rw (p, and-false (ltb (g .stamp .phys) line)) (step ∙ ap (λ (n : ℕ). n + countNew line es gs) same)
+        | inr p ↦ elim (test (ltb (g .stamp .phys) line)) [
+          | inl q ↦ rw (p, q) (length-put-all gs es (b .1) a)
+          | inr q ↦
+              let more : length (put g es) ≡ suc (length es) = put-length g es a ∙ rw p in
+              rw (p, q) (step ∙ omega (arith, more))
+        ]
+      ])
+
+  pub passed-count : (gs es : List Entry) → Ascending es → passedOver line es gs ≡ countPassed line es gs
+  unfolding passedOver countPassed
+  passed-count [] es a = refl
+  passed-count (g ∷ gs) es a = rw (below-seen line es g a, passed-count gs es a) (elim (test (isHeld (seen (g .key) es))) [
+    | inl p ↦ rw (p, and-false (ltb (g .stamp .phys) line))
+    | inr p ↦ elim (test (ltb (g .stamp .phys) line)) [ inl q ↦ rw (p, q) | inr q ↦ rw (p, q) ]
+  ])
+
+  pub passed-most : (es gs : List Entry) → passedOver line es gs ≤ length gs
+  unfolding passedOver
+  passed-most es [] = omega arith
+  passed-most es (g ∷ gs) = elim (test (belowLine line es g)) [
+    | inl p ↦ rw p (omega (arith, passed-most es gs))
+    | inr p ↦ rw p (omega (arith, passed-most es gs))
+  ]
+
+  pub mem-taken : (es gs : List Entry) {d : Entry} → d ∈ taken line es gs → d ∈ gs
+  unfolding taken
+  mem-taken es [] m = m
+  mem-taken es (g ∷ gs) {d} m = elim (test (belowLine line es g)) [
+    | inl p ↦ tail (mem-taken es gs (rw p at m))
+    | inr p ↦ elim (mem-cons (rw p at m)) [ inl q ↦ head q | inr q ↦ tail (mem-taken es gs q) ]
+  ]
+
+  pub taken-not-below : (es gs : List Entry) {d : Entry} → d ∈ taken line es gs → belowLine line es d ≡ false
+  unfolding taken
+  taken-not-below es [] m = absurd (mem-nil m)
+  taken-not-below es (g ∷ gs) {d} m = elim (test (belowLine line es g)) [
+    | inl p ↦ taken-not-below es gs (rw p at m)
+    | inr p ↦ elim (mem-cons (rw p at m)) [ inl q ↦ ap (belowLine line es) q ∙ p | inr q ↦ taken-not-below es gs q ]
+  ]
+
+  pub taken-ascending : (es gs : List Entry) → Ascending gs → Ascending (taken line es gs)
+  unfolding taken
+  taken-ascending es [] a = tt
+  taken-ascending es (g ∷ gs) a = elim (test (belowLine line es g)) [
+    | inl p ↦ rw p (taken-ascending es gs (a .1))
+    | inr p ↦ rw p (λ d m. a .0 d (mem-taken es gs m), taken-ascending es gs (a .1))
+  ]
+
+  pub count-most : (es gs : List Entry) → countNew line es gs ≤ length gs
+  unfolding countNew
+  count-most es [] = omega arith
+  count-most es (g ∷ gs) = elim (test (isHeld (seen (g .key) es))) [
+    | inl p ↦ rw p (omega (arith, count-most es gs))
+    | inr p ↦ elim (test (ltb (g .stamp .phys) line)) [
+      | inl q ↦ rw (p, q) (omega (arith, count-most es gs))
+      | inr q ↦ rw (p, q) (omega (arith, count-most es gs))
+    ]
+  ]

@@ -12,7 +12,7 @@ use Rattle.wire.proofs.Number.{length-be}
 use Rattle.wire.proofs.Fill.{length-zeros, zeros-add, field-past, field-here}
 use Rattle.entry.specs.Entry.{Entry}
 use Rattle.image.specs.Layout.{usedAt, widthAt, headerWidth, slotWidth, slotStart}
-use Rattle.image.specs.Image.{slotBytes, slots, header, image, slotEntry, slotsOf, usedOf, entriesOf}
+use Rattle.image.specs.Image.{slotBytes, slots, header, image, slotEntry, slotsOf, usedOf, lineOf, entriesOf}
 use Rattle.image.specs.Slot.{slotAt}
 use Rattle.image.specs.Meaning.{Sound}
 use Rattle.image.proofs.SlotLaws.{length-slot}
@@ -27,7 +27,7 @@ splice-part a e x y w z s is la le =
     rw (is, take-at x (y ++ z) a la, d) (append-assoc x w z)
 
 -- what is lent and given back
-splice-mid : (a e k : ℕ) (s ys : List ℕ) → e ≡ a + k → putMid a k s ys ≡ splice a e ys s
+pub splice-mid : (a e k : ℕ) (s ys : List ℕ) → e ≡ a + k → putMid a k s ys ≡ splice a e ys s
 unfolding splice
 splice-mid a e k s ys h = rw (drop-drop k a s, h) (sym (append-assoc (take a s) ys (drop (a + k) s)))
 
@@ -40,7 +40,7 @@ module _ (a e : ℕ) (w s : List ℕ) (n : a + length w ≡ e) (le : e ≤ lengt
   unfolding splice
   length-splice = length-append (take a s ++ w) (drop e s) ∙ omega (arith, length-front-of, length-drop e s)
 
-  drop-splice : (m : ℕ) → e ≤ m → drop m (splice a e w s) ≡ drop m s
+  pub drop-splice : (m : ℕ) → e ≤ m → drop m (splice a e w s) ≡ drop m s
   unfolding splice
   drop-splice m h =
       let t = (take a s ++ w) ++ drop e s in
@@ -123,11 +123,12 @@ module _ (i : ℕ) (s : List ℕ) (le : i ≤ usedOf s) (fits : slotStart (usedO
       (omega (arith, length-raised)) slotWidth l
 
 -- ---- the image of two runs of entries
-image-of : (c u : ℕ) (xs ys : List Entry) → length xs + length ys ≡ u
-    → image c (xs ++ ys) ≡ (header c u ++ slots xs) ++ (slots ys ++ zeros (slotWidth * (c - u)))
-image-of c u xs ys n =
+pub image-of : (c line u : ℕ) (xs ys : List Entry) → length xs + length ys ≡ u
+    → image c line (xs ++ ys) ≡ (header c u line ++ slots xs) ++ (slots ys ++ zeros (slotWidth * (c - u)))
+image-of c line u xs ys n =
     let e : length (xs ++ ys) ≡ u = length-append xs ys ∙ n in
-    flat-image c (xs ++ ys) ∙ ap₂ (λ (m : ℕ) (l : List ℕ). header c m ++ (l ++ zeros (slotWidth * (c - m)))) e (slots-append xs ys) ∙ simp append-assoc
+    flat-image c line (xs ++ ys) ∙ ap₂ (λ (m : ℕ) (l : List ℕ). header c m line ++ (l ++ zeros (slotWidth * (c - m)))) e (slots-append xs ys)
+    ∙ simp append-assoc
 
 module _ (s : List ℕ) (k : Sound s) (i : ℕ) (le : i ≤ usedOf s) where
   abbrev es : List Entry
@@ -135,35 +136,48 @@ module _ (s : List ℕ) (k : Sound s) (i : ℕ) (le : i ≤ usedOf s) where
 
   -- the bytes before slot i
   abbrev front : ℕ → List ℕ
-  front u = header (slotsOf s) u ++ slots (take i es)
+  front u = header (slotsOf s) u (lineOf s) ++ slots (take i es)
 
-  length-before : length (take i es) ≡ i
+  pub length-before : length (take i es) ≡ i
   length-before = length-take-le i es (omega (arith, used-is s))
 
-  length-from : length (drop i es) ≡ usedOf s - i
+  pub length-from : length (drop i es) ≡ usedOf s - i
   length-from = length-drop i es ∙ omega (arith, used-is s)
 
-  length-front : (u : ℕ) → length (front u) ≡ slotStart i
+  pub length-front : (u : ℕ) → length (front u) ≡ slotStart i
   length-front u =
-      length-append (header (slotsOf s) u) (slots (take i es)) ∙ omega (arith, length-header (slotsOf s) u, length-slots (take i es), length-before)
+      length-append (header (slotsOf s) u (lineOf s)) (slots (take i es))
+      ∙ omega (arith, length-header (slotsOf s) u (lineOf s), length-slots (take i es), length-before)
 
-  length-moved : length (slots (drop i es)) ≡ slotWidth * (usedOf s - i)
+  pub length-moved : length (slots (drop i es)) ≡ slotWidth * (usedOf s - i)
   length-moved = length-slots (drop i es) ∙ ap (λ (n : ℕ). slotWidth * n) length-from
 
   -- the bytes of the unused slots
   abbrev unused : List ℕ
   unused = zeros (slotWidth * (slotsOf s - usedOf s))
 
-  split-at : s ≡ front (usedOf s) ++ (slots (drop i es) ++ unused)
+  pub split-at : s ≡ front (usedOf s) ++ (slots (drop i es) ++ unused)
   split-at =
-      k .bytes ∙ ap (image (slotsOf s)) (sym (take-append-drop i es))
-      ∙ image-of (slotsOf s) (usedOf s) (take i es) (drop i es) (omega (arith, length-before, length-from))
+      k .bytes ∙ ap (image (slotsOf s) (lineOf s)) (sym (take-append-drop i es))
+      ∙ image-of (slotsOf s) (lineOf s) (usedOf s) (take i es) (drop i es) (omega (arith, length-before, length-from))
 
   -- a part that starts where slot i does
-  field-at : (n : ℕ) (x r : List ℕ) → s ≡ front (usedOf s) ++ (x ++ r) → length x ≡ n → field (slotStart i) n s ≡ x
+  pub field-at : (n : ℕ) (x r : List ℕ) → s ≡ front (usedOf s) ++ (x ++ r) → length x ≡ n → field (slotStart i) n s ≡ x
   field-at n x r is l =
       let z : slotStart i + 0 ≡ slotStart i = omega arith in
       ap₂ (λ (j : ℕ) (t : List ℕ). field j n t) (sym z) is ∙ field-past (slotStart i) 0 n (front (usedOf s)) _ (length-front (usedOf s)) ∙ field-here n x r l
+
+  -- U written anew
+  flat-front : (u : ℕ) (r : List ℕ)
+      → front u ++ r
+      ≡ be 2 (slotsOf s) ++ (be 2 u ++ (be 2 slotWidth ++ (be 2 headerWidth ++ (be 6 (lineOf s) ++ (zeros 2 ++ (slots (take i es) ++ r))))))
+  flat-front u r =
+      append-assoc (header (slotsOf s) u (lineOf s)) (slots (take i es)) r ∙ flat-header (slotsOf s) u (lineOf s) (slots (take i es) ++ r)
+
+  pub counted : (u n : ℕ) (r t : List ℕ) → t ≡ front u ++ r → splice usedAt widthAt (be 2 n) t ≡ front n ++ r
+  counted u n r t e =
+      splice-part usedAt widthAt (be 2 (slotsOf s)) (be 2 u) (be 2 n) _ t (e ∙ flat-front u r) (length-be 2 _) (omega (arith, length-be 2 u))
+      ∙ sym (flat-front n r)
 
   -- ---- slot i is used
   module _ (h : Entry) (split : drop i es ≡ h ∷ drop (suc i) es) where
@@ -181,12 +195,12 @@ module _ (s : List ℕ) (k : Sound s) (i : ℕ) (le : i ≤ usedOf s) where
     slot-there = field-at slotWidth (slotBytes h) rest there (length-slot h)
 
     -- written over
-    pub replaced : (e : Entry) → i < usedOf s → replaceAt i (slotBytes e) s ≡ image (slotsOf s) (take i es ++ (e ∷ drop (suc i) es))
+    pub replaced : (e : Entry) → i < usedOf s → replaceAt i (slotBytes e) s ≡ image (slotsOf s) (lineOf s) (take i es ++ (e ∷ drop (suc i) es))
     unfolding replaceAt slots
     replaced e lt =
         splice-part (slotStart i) (slotStart (i + 1)) (front (usedOf s)) (slotBytes h) (slotBytes e) rest s there (length-front (usedOf s))
         (omega (arith, length-slot h))
-        ∙ sym (image-of (slotsOf s) (usedOf s) (take i es) (e ∷ drop (suc i) es) (omega (arith, length-before, length-from, ap length split))
+        ∙ sym (image-of (slotsOf s) (lineOf s) (usedOf s) (take i es) (e ∷ drop (suc i) es) (omega (arith, length-before, length-from, ap length split))
         ∙ simp append-assoc)
 
   -- ---- a slot put in
@@ -203,16 +217,7 @@ module _ (s : List ℕ) (k : Sound s) (i : ℕ) (le : i ≤ usedOf s) where
     moved : field (slotStart i) (slotWidth * (usedOf s - i)) s ≡ slots (drop i es)
     moved = field-at (slotWidth * (usedOf s - i)) (slots (drop i es)) unused split-at length-moved
 
-    flat-front : (u : ℕ) (r : List ℕ)
-        → front u ++ r ≡ be 2 (slotsOf s) ++ (be 2 u ++ (be 2 slotWidth ++ (be 2 headerWidth ++ (zeros 8 ++ (slots (take i es) ++ r)))))
-    flat-front u r = append-assoc (header (slotsOf s) u) (slots (take i es)) r ∙ flat-header (slotsOf s) u (slots (take i es) ++ r)
-
-    counted : (u n : ℕ) (r t : List ℕ) → t ≡ front u ++ r → splice usedAt widthAt (be 2 n) t ≡ front n ++ r
-    counted u n r t e =
-        splice-part usedAt widthAt (be 2 (slotsOf s)) (be 2 u) (be 2 n) _ t (e ∙ flat-front u r) (length-be 2 _) (omega (arith, length-be 2 u))
-        ∙ sym (flat-front n r)
-
-    pub inserted : (e : Entry) → insertAt i (slotBytes e) s ≡ image (slotsOf s) (take i es ++ (e ∷ drop i es))
+    pub inserted : (e : Entry) → insertAt i (slotBytes e) s ≡ image (slotsOf s) (lineOf s) (take i es ++ (e ∷ drop i es))
     unfolding insertAt slots
     inserted e =
         let u = usedOf s in
@@ -225,7 +230,7 @@ module _ (s : List ℕ) (k : Sound s) (i : ℕ) (le : i ≤ usedOf s) where
         counted u (u + 1) _ s split-at ∙ ap (λ (z : List ℕ). front (u + 1) ++ (slots (drop i es) ++ z)) open-zeros ∙ simp append-assoc in
         let s1 : splice (slotStart i) (slotStart (u + 1)) w t ≡ front (u + 1) ++ (w ++ left) =
         splice-part (slotStart i) (slotStart (u + 1)) (front (u + 1)) old w left t is (length-front (u + 1)) (omega arith) in
-        rw (moved, s1) (sym (image-of (slotsOf s) (u + 1) (take i es) (e ∷ drop i es) (omega (arith, length-before, length-from))))
+        rw (moved, s1) (sym (image-of (slotsOf s) (lineOf s) (u + 1) (take i es) (e ∷ drop i es) (omega (arith, length-before, length-from))))
 
 -- the bytes of a used slot of a sound store are those of its entry
 pub slot-is : (s : List ℕ) → Sound s → (i : ℕ) → i < usedOf s → slotAt i s ≡ slotBytes (slotEntry (slotAt i s))

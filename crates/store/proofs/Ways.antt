@@ -3,16 +3,16 @@ use Prim.Native.Nat.{ℕ, suc, _+_, _-_, _*_, _≤_, _<_}
 use native.Mathlib.Omega.{arith}
 use native.Mathlib.Numerals.{add-one}
 use mathlib.Core.Path.{_≡_, sym, ap, ap₂, _∙_}
-use mathlib.Core.Bool.{Bool, true, false, cond}
+use mathlib.Core.Bool.{Bool, true, false, cond, not}
 use mathlib.Core.List.{List, _∷_, _++_, append-nil}
 use mathlib.Core.Option.{Option, none, some}
 use lib.ListN.{length, drop, drop-of-length-le}
-use lib.Dec.{eqb}
+use lib.Dec.{ltb, eqb}
 use borrow.Author.Tests.{eq-eqb, ne-eqb, lt-ltb, le-ltb, le-leb, lt-leb}
 use Rattle.wire.specs.Fill.{zeros}
 use Rattle.wire.proofs.Fill.{length-field}
 use Rattle.entry.specs.declared.Refusal.{Refusal}
-use Rattle.entry.specs.declared.Refusal.the-variants.{BadStore, StoreFull}
+use Rattle.entry.specs.declared.Refusal.the-variants.{BadStore, StoreFull, BelowLine}
 use Rattle.entry.specs.declared.Acceptance.{Acceptance}
 use Rattle.entry.specs.declared.Acceptance.the-variants as acceptance
 use Rattle.entry.specs.Refusal.{number}
@@ -21,22 +21,22 @@ use Rattle.entry.specs.Key.{badKey}
 use Rattle.entry.specs.Entry.{Entry, beats, refusalOf}
 use Rattle.entry.proofs.Numbers.{number-not-0}
 use Rattle.image.specs.Layout.{valueStart, slotWidth, mostSlots, slotStart}
-use Rattle.image.specs.Image.{image, header, slots, slotEntry, flagIn, valueIn, slotsOf, usedOf, entriesOf, sound}
+use Rattle.image.specs.Image.{image, header, slots, slotEntry, flagIn, valueIn, slotsOf, usedOf, lineOf, entriesOf, sound}
 use Rattle.image.specs.Slot.{slotAt, hasSlot}
 use Rattle.image.proofs.ImageLaws.{entry-at, used-is}
-use Rattle.store.specs.Held.{putAll}
+use Rattle.store.specs.Held.{isHeld}
 use Rattle.store.specs.Answer.{Answer, merged, refused, isRefused}
 use Rattle.store.specs.Create.{createRefusal, freshStore, afterCreate}
 use Rattle.store.specs.Lookup.{value, deleted, never, findingFor, lookupAnswer}
 use Rattle.store.specs.Lookup as looking
 use Rattle.store.specs.Offer.{offerAnswer, afterOffer}
-use Rattle.store.specs.Merge.{mergeAnswer, afterMerge}
+use Rattle.store.specs.Merge.{passedOver, mergedEntries, mergeAnswer, afterMerge}
 use Rattle.store.specs.declared.Placement.{Placement}
 use Rattle.store.specs.declared.Placement.the-variants.{Insert, Replace, Kept, Refused}
-use Rattle.store.specs.Unchecked.{seek, seen, isHeld, Placed, lookupUnchecked, replaceAt, insertAt, placementFor, placement, toldOf, writtenAt}
-use Rattle.store.specs.Unchecked.{afterPlaced, afterAll, countNew, offerUnchecked, afterOfferUnchecked}
+use Rattle.store.specs.Unchecked.{seek, seen, Placed, lookupUnchecked, replaceAt, insertAt, placementFor, placement, toldOf, writtenAt}
+use Rattle.store.specs.Unchecked.{afterPlaced, afterAll, countNew, countPassed, Counted, offerUnchecked, afterOfferUnchecked}
 use Rattle.store.proofs.HeldLaws.{none-of, some-of}
-use Rattle.store.proofs.Seeking.{seen-there, length-put-all}
+use Rattle.store.proofs.Seeking.{seen-there, length-put-all, passed-count}
 use Rattle.store.proofs.Splices.{opened}
 use Rattle.store.proofs.Placing.{placement-fits}
 use Rattle.store.proofs.OnSound.{ordered, all-placed, accepts-held, fits-held}
@@ -65,11 +65,11 @@ module _ (s : List ℕ) (c : ℕ) where
           let q = eq-eqb (length s) (slotStart c) h in
           (sym (rw (le-ltb c 1 lo, le-ltb mostSlots c hi, q)), e ∙ sym (rw (le-ltb c 1 lo, le-ltb mostSlots c hi, q)))
 
-pub fresh-bytes : (c n : ℕ) → n ≡ slotWidth * c → header c 0 ++ zeros n ≡ freshStore c
+pub fresh-bytes : (c n : ℕ) → n ≡ slotWidth * c → header c 0 0 ++ zeros n ≡ freshStore c
 unfolding freshStore image slots
 fresh-bytes c n e =
     let z : n ≡ slotWidth * (c - 0) = omega arith in
-    ap (λ (m : ℕ). header c 0 ++ zeros m) z ∙ sym (rw append-nil)
+    ap (λ (m : ℕ). header c 0 0 ++ zeros m) z ∙ sym (rw append-nil)
 
 -- ---- a key sought
 first : (a b : Entry) (r s : List Entry) → a ∷ r ≡ b ∷ s → a ≡ b
@@ -134,18 +134,26 @@ module _ (s : List ℕ) (e : Entry) (at : ℕ) (held : Bool) (p : Placed (e .key
       place-over c = ap {B = Placement} Replace (p .place) ∙ sym (rw (is-seen s (e .key) at held p t, b, here true c))
 
   module _ (f : held ≡ false) where
-    pub place-full : slotsOf s ≤ usedOf s → Refused StoreFull ≡ placement s e
+    pub place-old : e .stamp .phys < lineOf s → Refused BelowLine ≡ placement s e
     unfolding placementFor
-    place-full h = sym (rw (not-seen s (e .key) at held p f, le-leb (slotsOf s) (usedOf s) h))
+    place-old h = sym (rw (not-seen s (e .key) at held p f, lt-ltb (e .stamp .phys) (lineOf s) h))
 
-    module _ (room : usedOf s < slotsOf s) where
-      pub place-short : hasSlot (usedOf s) s ≡ false → Refused BadStore ≡ placement s e
-      unfolding placementFor
-      place-short c = sym (rw (not-seen s (e .key) at held p f, lt-leb (slotsOf s) (usedOf s) room, c))
+    module _ (new : lineOf s ≤ e .stamp .phys) where
+      above : ltb (e .stamp .phys) (lineOf s) ≡ false
+      above = le-ltb (e .stamp .phys) (lineOf s) new
 
-      pub place-new : hasSlot (usedOf s) s ≡ true → Insert at ≡ placement s e
+      pub place-full : slotsOf s ≤ usedOf s → Refused StoreFull ≡ placement s e
       unfolding placementFor
-      place-new c = ap {B = Placement} Insert (p .place) ∙ sym (rw (not-seen s (e .key) at held p f, lt-leb (slotsOf s) (usedOf s) room, c))
+      place-full h = sym (rw (not-seen s (e .key) at held p f, above, le-leb (slotsOf s) (usedOf s) h))
+
+      module _ (room : usedOf s < slotsOf s) where
+        pub place-short : hasSlot (usedOf s) s ≡ false → Refused BadStore ≡ placement s e
+        unfolding placementFor
+        place-short c = sym (rw (not-seen s (e .key) at held p f, above, lt-leb (slotsOf s) (usedOf s) room, c))
+
+        pub place-new : hasSlot (usedOf s) s ≡ true → Insert at ≡ placement s e
+        unfolding placementFor
+        place-new c = ap {B = Placement} Insert (p .place) ∙ sym (rw (not-seen s (e .key) at held p f, above, lt-leb (slotsOf s) (usedOf s) room, c))
 
 -- the bytes w of its slot written where a placement p says
 module _ (s : List ℕ) (e : Entry) (p : Placement) (k : p ≡ placement s e) where
@@ -190,24 +198,48 @@ module _ (s : List ℕ) (e : Entry) where
   offer-5 h = (sym (rw h), sym (rw h))
 
 -- ---- a merge
--- a loop that counts the giver's keys that are not held
-count-one : (t : Bool) (n d m : ℕ) → m ≡ cond t 0 1 → n + m + d ≡ n + cond t d (suc d)
-count-one true n d m e = omega arith
-count-one false n d m e = omega arith
+-- a loop that counts the giver's entries whose key is not held, at entry j
+pub record Counting (line : ℕ) (hs es : List Entry) (j new passed : ℕ) : Type 0 where
+  pub new-is : new + countNew line hs (drop j es) ≡ countNew line hs es
+  pub passed-is : passed + countPassed line hs (drop j es) ≡ countPassed line hs es
+  pub new-most : new ≤ j
+  pub passed-most : passed ≤ j
 
-pub count-next : (hs es : List Entry) (j : ℕ) (e : Entry) → drop j es ≡ e ∷ drop (suc j) es → (t : Bool) → t ≡ isHeld (seen (e .key) hs) → (n m : ℕ)
-    → m ≡ cond t 0 1
-    → n + m + countNew hs (drop (j + 1) es) ≡ n + countNew hs (drop j es)
-unfolding countNew
-count-next hs es j e split t te n m me = rw (split, ← te, add-one j) (count-one t n (countNew hs (drop (suc j) es)) m me)
+pub counting-none : (line : ℕ) (hs es : List Entry) → Counting line hs es 0 0 0
+counting-none line hs es = record { new-is = omega arith; passed-is = omega arith; new-most = omega arith; passed-most = omega arith }
 
-pub count-end : (hs es : List Entry) (j n c : ℕ) → length es ≤ j → n + countNew hs (drop j es) ≡ c → n ≡ c
-unfolding countNew
-count-end hs es j n c h e = sym (omega (arith, rw (drop-of-length-le es h) at e))
+-- the entry adds m to the new and k to those that are passed over
+one-new : (t o : Bool) (n d m : ℕ) → m ≡ cond t 0 (cond (not o) 1 0) → n + m + d ≡ n + cond t d (cond o d (suc d))
+one-new true o n d m e = omega arith
+one-new false true n d m e = omega arith
+one-new false false n d m e = omega arith
 
-pub one-most : (t : Bool) (m : ℕ) → m ≡ cond t 0 1 → m ≤ 1
-one-most true m e = omega arith
-one-most false m e = omega arith
+one-passed : (t o : Bool) (n d m : ℕ) → m ≡ cond t 0 (cond o 1 0) → n + m + d ≡ n + cond t d (cond o (suc d) d)
+one-passed true o n d m e = omega arith
+one-passed false true n d m e = omega arith
+one-passed false false n d m e = omega arith
+
+pub one-most : (t o : Bool) (m : ℕ) → m ≡ cond t 0 (cond o 1 0) → m ≤ 1
+one-most true o m e = omega arith
+one-most false true m e = omega arith
+one-most false false m e = omega arith
+
+module _ (line : ℕ) (hs es : List Entry) (j new passed : ℕ) (c : Counting line hs es j new passed) where
+  pub counting-next : (e : Entry) → drop j es ≡ e ∷ drop (suc j) es → (t o : Bool) → t ≡ isHeld (seen (e .key) hs) → o ≡ ltb (e .stamp .phys) line
+      → (m k : ℕ) → m ≡ cond t 0 (cond (not o) 1 0) → k ≡ cond t 0 (cond o 1 0) → Counting line hs es (j + 1) (new + m) (passed + k)
+  unfolding countNew countPassed
+  counting-next e split t o te oe m k me ke = record {
+    new-is = rw (add-one j) (one-new t o new (countNew line hs (drop (suc j) es)) m me ∙ rw (split, ← te, ← oe) at (c .new-is));
+    passed-is = rw (add-one j) (one-passed t o passed (countPassed line hs (drop (suc j) es)) k ke ∙ rw (split, ← te, ← oe) at (c .passed-is));
+    new-most = omega (arith, c .new-most, one-most t (not o) m me);
+    passed-most = omega (arith, c .passed-most, one-most t o k ke);
+  }
+
+  pub counting-end : length es ≤ j → Counted line hs es new passed
+  unfolding countNew countPassed
+  counting-end h =
+      let z = drop-of-length-le es h in
+      record { new-is = omega (arith, rw z at (c .new-is)); passed-is = omega (arith, rw z at (c .passed-is)) }
 
 -- a loop that offers the giver's entries
 pub give-next : (es : List Entry) (j : ℕ) (e : Entry) → drop j es ≡ e ∷ drop (suc j) es → (s t : List ℕ) → t ≡ afterPlaced s e
@@ -229,20 +261,34 @@ module _ (r g : List ℕ) where
     unfolding mergeAnswer afterMerge isRefused
     merge-giver-5 k = (sym (rw (h, k)), sym (rw (h, k)))
 
-    module _ (k : sound g ≡ true) (c u n : ℕ) (ce : c ≡ slotsOf r) (ue : u ≡ usedOf r) (ne : n ≡ countNew (entriesOf r) (entriesOf g)) where
-      merged-length : length (putAll (entriesOf g) (entriesOf r)) ≡ u + n
-      merged-length = length-put-all (entriesOf g) (entriesOf r) (ordered g k) (ordered r h) ∙ ap₂ (λ (a b : ℕ). a + b) (used-is r ∙ sym ue) (sym ne)
-
-      pub merge-6 : c < u + n → (refused 6 ≡ mergeAnswer r g) × (r ≡ afterMerge r g)
+    module _ (k : sound g ≡ true) where
+      pub merge-35 : (lineOf r ≡ lineOf g → ⊥) → (refused 35 ≡ mergeAnswer r g) × (r ≡ afterMerge r g)
       unfolding mergeAnswer afterMerge isRefused
-      merge-6 f =
-          let q = lt-ltb (slotsOf r) (length (putAll (entriesOf g) (entriesOf r))) (omega (arith, merged-length)) in
-          (sym (rw (h, k, q)), sym (rw (h, k, q)))
+      merge-35 f = let q = ne-eqb (lineOf r) (lineOf g) f in (sym (rw (h, k, q)), sym (rw (h, k, q)))
 
-      pub merge-done : u + n ≤ c → (t : List ℕ) → t ≡ afterAll (entriesOf g) r → (merged ≡ mergeAnswer r g) × (t ≡ afterMerge r g)
-      unfolding mergeAnswer afterMerge isRefused
-      merge-done f t te =
-          let m : length (putAll (entriesOf g) (entriesOf r)) ≤ slotsOf r = omega (arith, merged-length) in
-          let q = le-ltb (slotsOf r) (length (putAll (entriesOf g) (entriesOf r))) m in
-          let a = all-placed (entriesOf g) r h (accepts-held g k) (fits-held g k) m in
-          (sym (rw (h, k, q)), te ∙ a ∙ sym (rw (h, k, q)))
+      module _ (l : lineOf r ≡ lineOf g) (c u n p : ℕ) (ce : c ≡ slotsOf r) (ue : u ≡ usedOf r)
+          (t : Counted (lineOf r) (entriesOf r) (entriesOf g) n p) where
+        same : eqb (lineOf r) (lineOf g) ≡ true
+        same = eq-eqb (lineOf r) (lineOf g) l
+
+        merged-length : length (mergedEntries r g) ≡ u + n
+        unfolding mergedEntries
+        merged-length =
+            length-put-all (lineOf r) (entriesOf g) (entriesOf r) (ordered g k) (ordered r h)
+            ∙ ap₂ (λ (a b : ℕ). a + b) (used-is r ∙ sym ue) (sym (t .new-is))
+
+        pub merge-6 : c < u + n → (refused 6 ≡ mergeAnswer r g) × (r ≡ afterMerge r g)
+        unfolding mergeAnswer afterMerge isRefused
+        merge-6 f =
+            let q = lt-ltb (slotsOf r) (length (mergedEntries r g)) (omega (arith, merged-length)) in
+            (sym (rw (h, k, same, q)), sym (rw (h, k, same, q)))
+
+        pub merge-done : u + n ≤ c → (w : List ℕ) → w ≡ afterAll (entriesOf g) r → (merged p ≡ mergeAnswer r g) × (w ≡ afterMerge r g)
+        unfolding mergeAnswer afterMerge isRefused mergedEntries
+        merge-done f w we =
+            let m : length (mergedEntries r g) ≤ slotsOf r = omega (arith, merged-length) in
+            let q = le-ltb (slotsOf r) (length (mergedEntries r g)) m in
+            let a = all-placed (entriesOf g) r h (ordered g k) (accepts-held g k) (fits-held g k) m in
+            let e : p ≡ passedOver (lineOf r) (entriesOf r) (entriesOf g) =
+            t .passed-is ∙ sym (passed-count (lineOf r) (entriesOf g) (entriesOf r) (ordered r h)) in
+            (ap {B = Answer} merged e ∙ sym (rw (h, k, same, q)), we ∙ a ∙ sym (rw (h, k, same, q)))

@@ -22,9 +22,9 @@ createRefusal buffer slots =
     (cond (not (eqb (length buffer) (slotStart slots))) 4
     0)
 
--- a store of c slots that holds nothing (R115)
+-- a store of c slots that holds nothing and was never purged (R115, R257)
 unfoldable pub freshStore : ℕ → List ℕ
-freshStore c = image c []
+freshStore c = image c 0 []
 
 unfoldable pub afterCreate : List ℕ → ℕ → List ℕ
 afterCreate buffer slots = cond (eqb (createRefusal buffer slots) 0) (freshStore slots) buffer

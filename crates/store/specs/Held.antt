@@ -1,8 +1,9 @@
 -- The entries that a store holds, in key order, and what offering an entry does to them.
-use mathlib.Core.Bool.{cond}
+use mathlib.Core.Bool.{Bool, true, false, cond, not, _&&_}
 use mathlib.Core.List.{List, [], _∷_, List·Memᴰ}
 use mathlib.Core.Option.{Option, none, some}
 use Prim.Native.Nat.{ℕ, zero, suc}
+use lib.Dec.{ltb}
 use Rattle.wire.specs.Order.{sameBytes}
 use Rattle.entry.specs.Order.{keyBelow}
 use Rattle.entry.specs.Entry.{Entry, beats}
@@ -29,6 +30,20 @@ putAll (e ∷ es) hs = putAll es (put e hs)
 unfoldable pub find : List ℕ → List Entry → Option Entry
 find k [] = none
 find k (h ∷ hs) = cond (sameBytes k (h .key)) (some h) (find k hs)
+
+-- whether there is one
+unfoldable pub isHeld : Option Entry → Bool
+isHeld none = false
+isHeld (some h) = true
+
+-- of an entry and what is held of its key, the one that is held next
+unfoldable pub better : Entry → Option Entry → Option Entry
+better e none = some e
+better e (some h) = cond (beats e h) (some e) (some h)
+
+-- the entry's phys is below the purge line, and its key is not held (R258)
+unfoldable pub belowLine : ℕ → List Entry → Entry → Bool
+belowLine line hs e = ltb (e .stamp .phys) line && not (isHeld (find (e .key) hs))
 
 -- how many entries stand before the first with a key
 unfoldable pub indexOf : List ℕ → List Entry → ℕ

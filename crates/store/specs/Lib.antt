@@ -6,5 +6,6 @@ pub mod Listing
 pub mod Offer
 pub mod Merge
 pub mod Unchecked
+pub mod Purge
 pub mod Overtaken
 pub mod Meaning

@@ -1,24 +1,25 @@
 -- What the calls keep, where a value or an entry stands, and what is found after an offer.
-use Prim.Native.Nat.{ℕ, _+_, _^_, _≤_, _<_}
+use Prim.Native.Nat.{ℕ, suc, _+_, _^_, _≤_, _<_}
 use mathlib.Core.Path.{_≡_}
-use mathlib.Core.Logic.{_⊎_}
-use mathlib.Core.Bool.{true, cond}
+use mathlib.Core.Logic.{_⊎_, _↔_}
+use mathlib.Core.Bool.{true, false, cond}
 use mathlib.Core.List.{List, []}
-use mathlib.Core.Option.{some}
+use mathlib.Core.Option.{none, some}
 use lib.ListN.{length}
 use Rattle.wire.specs.Fill.{field}
 use Rattle.entry.specs.declared.Stamp.{Stamp}
-use Rattle.entry.specs.Entry.{Entry, entryOf}
+use Rattle.entry.specs.Entry.{Entry, entryOf, Acceptable}
 use Rattle.image.specs.Layout.{mostSlots}
-use Rattle.image.specs.Image.{slotBytes, slotsOf, entriesOf, sound}
+use Rattle.image.specs.Image.{slotBytes, slotsOf, lineOf, entriesOf, sound}
 use Rattle.image.specs.Slot.{slotAt}
-use Rattle.store.specs.Held.{_∈_, put, putAll, indexOf}
-use Rattle.store.specs.Answer.{stored, replaced, kept, isRefused}
+use Rattle.store.specs.Held.{_∈_, put, find, indexOf}
+use Rattle.store.specs.Answer.{stored, replaced, kept, purged, isRefused}
 use Rattle.store.specs.Create.{freshStore}
 use Rattle.store.specs.Lookup.{value, findingFor, lookupAnswer, valuePart}
 use Rattle.store.specs.Listing.{entry, nth, listingFor, entryAnswer}
 use Rattle.store.specs.Offer.{offerAnswer, afterOffer}
-use Rattle.store.specs.Merge.{mergeAnswer, afterMerge}
+use Rattle.store.specs.Merge.{mergedEntries, mergeAnswer, afterMerge}
+use Rattle.store.specs.Purge.{remaining, removed, purgeAnswer, afterPurge}
 use Rattle.store.specs.Unchecked.{seek, lookupUnchecked, offerUnchecked, afterOfferUnchecked}
 
 -- the logical count and the node id fit their fields, as those of every stamp that `offer` can be
@@ -27,26 +28,28 @@ pub record Representable (e : Entry) : Type 0 where
   pub logical : e .stamp .logical < 2 ^ 16
   pub node : e .stamp .node < 2 ^ 8
 
--- a store t is sound, has as many slots as s, and holds es
+-- a store t is sound, has as many slots as s and its line, and holds es
 pub record Keeps (s : List ℕ) (es : List Entry) (t : List ℕ) : Type 0 where
   pub sound : sound t ≡ true
   pub slots : slotsOf t ≡ slotsOf s
+  pub line : lineOf t ≡ lineOf s
   pub holds : entriesOf t ≡ es
 
 -- ---- what the calls keep
--- a fresh store is sound and holds nothing (R115)
+-- a fresh store is sound, holds nothing and has the line 0 (R115, R257)
 abbrev pub FreshKeeps : Type 0
-FreshKeeps = (c : ℕ) → 1 ≤ c → c ≤ mostSlots → (sound (freshStore c) ≡ true) × (slotsOf (freshStore c) ≡ c) × (entriesOf (freshStore c) ≡ [])
+FreshKeeps = (c : ℕ) → 1 ≤ c → c ≤ mostSlots → (sound (freshStore c) ≡ true) × (slotsOf (freshStore c) ≡ c)
+    × (lineOf (freshStore c) ≡ 0) × (entriesOf (freshStore c) ≡ [])
 
 -- an offer leaves a sound store sound (R117, R118)
 abbrev pub OfferKeeps : Type 0
 OfferKeeps = (s : List ℕ) (e : Entry) → sound s ≡ true → Representable e
     → Keeps s (cond (isRefused (offerAnswer s e)) (entriesOf s) (put e (entriesOf s))) (afterOffer s e)
 
--- and so does a merge of sound stores (R121, R122)
+-- and so does a merge of sound stores (R121, R122, R260)
 abbrev pub MergeKeeps : Type 0
 MergeKeeps = (r g : List ℕ) → sound r ≡ true → sound g ≡ true
-    → Keeps r (cond (isRefused (mergeAnswer r g)) (entriesOf r) (putAll (entriesOf g) (entriesOf r))) (afterMerge r g)
+    → Keeps r (cond (isRefused (mergeAnswer r g)) (entriesOf r) (mergedEntries r g)) (afterMerge r g)
 
 -- an offer that is told as kept changes no byte (R119)
 abbrev pub KeptUnchanged : Type 0
@@ -55,6 +58,36 @@ KeptUnchanged = (s : List ℕ) (e : Entry) → offerAnswer s e ≡ kept → afte
 -- and an entry that is held is told as kept when it is offered again (R119)
 abbrev pub HeldIsKept : Type 0
 HeldIsKept = (s : List ℕ) (e : Entry) → sound s ≡ true → e ∈ entriesOf s → offerAnswer s e ≡ kept
+
+-- ---- a purge
+-- t is a sound store with as many slots as s, the line, and just those entries of s that are not
+-- tombstones below the line (R259)
+pub record Purges (s : List ℕ) (line : ℕ) (t : List ℕ) : Type 0 where
+  pub sound : sound t ≡ true
+  pub slots : slotsOf t ≡ slotsOf s
+  pub line-set : lineOf t ≡ line
+  pub entries : entriesOf t ≡ remaining line (entriesOf s)
+  pub holds : (e : Entry) → e ∈ entriesOf t ↔ ((e ∈ entriesOf s) × ((e .flag ≡ 1) × (e .stamp .phys < line) → ⊥))
+  -- what is told is how many are gone
+  pub counted : length (entriesOf t) + removed line (entriesOf s) ≡ length (entriesOf s)
+
+abbrev pub PurgeLeaves : Type 0
+PurgeLeaves = (s : List ℕ) (line : ℕ) → isRefused (purgeAnswer s line) ≡ false → Purges s line (afterPurge s line)
+
+-- purging to the held line is allowed (R259)
+abbrev pub PurgeToHeldLine : Type 0
+PurgeToHeldLine = (s : List ℕ) → sound s ≡ true → isRefused (purgeAnswer s (lineOf s)) ≡ false
+
+-- the same purge again right after changes no byte, and an accepted one then removes nothing (R259)
+abbrev pub PurgeAgain : Type 0
+PurgeAgain = (s : List ℕ) (line : ℕ) → (afterPurge (afterPurge s line) line ≡ afterPurge s line)
+    × (isRefused (purgeAnswer s line) ≡ false → purgeAnswer (afterPurge s line) line ≡ purged 0)
+
+-- after a purge that removed something, an acceptable entry with a key that is not held is stored, if
+-- its phys is at or above the line (R117, R259)
+abbrev pub RoomAfterPurge : Type 0
+RoomAfterPurge = (s : List ℕ) (line n : ℕ) → purgeAnswer s line ≡ purged (suc n) → (e : Entry) → Acceptable e
+    → find (e .key) (entriesOf (afterPurge s line)) ≡ none → line ≤ e .stamp .phys → offerAnswer (afterPurge s line) e ≡ stored
 
 -- ---- a lookup
 -- the place that it gives lies in the store, and the value stands there (R124)

@@ -3,24 +3,25 @@
 -- an offer is told as stored or replaced only where it was.
 use mathlib.Core.Path.{_≡_}
 use Prim.Native.Nat.{ℕ, zero, suc, _+_, _-_, _*_, _<_}
-use mathlib.Core.Bool.{Bool, true, false, cond, not}
+use mathlib.Core.Bool.{Bool, cond, not}
 use mathlib.Core.List.{List, [], _∷_, _++_}
 use mathlib.Core.Option.{Option, none, some}
 use lib.ListN.{take, drop}
-use lib.Dec.{leb, eqb}
+use lib.Dec.{ltb, leb, eqb}
 use Rattle.wire.specs.Number.{be}
 use Rattle.wire.specs.Fill.{field}
 use Rattle.wire.specs.Order.{sameBytes}
-use Rattle.entry.specs.declared.Refusal.the-variants.{BadStore, StoreFull}
+use Rattle.entry.specs.declared.Refusal.the-variants.{BadStore, StoreFull, BelowLine}
 use Rattle.entry.specs.Refusal.{number}
 use Rattle.entry.specs.Key.{badKey}
 use Rattle.entry.specs.Order.{keyBelow}
 use Rattle.entry.specs.Entry.{Entry, beats, refusalOf}
 use Rattle.image.specs.Layout.{usedAt, widthAt, slotWidth, slotStart}
-use Rattle.image.specs.Image.{slotBytes, slotsOf, usedOf, entriesOf}
+use Rattle.image.specs.Image.{slotBytes, slotsOf, usedOf, lineOf, entriesOf}
 use Rattle.image.specs.Slot.{hasSlot}
 use Rattle.store.specs.declared.Placement.{Placement}
 use Rattle.store.specs.declared.Placement.the-variants.{Insert, Replace, Kept, Refused}
+use Rattle.store.specs.Held.{isHeld}
 use Rattle.store.specs.Answer.{Answer, stored, replaced, kept, refused}
 use Rattle.store.specs.Lookup.{Finding, findingFor}
 use Rattle.store.specs.Lookup as looking
@@ -36,11 +37,6 @@ seek k (h ∷ hs) = cond (keyBelow k (h .key)) zero (cond (sameBytes k (h .key))
 unfoldable pub seen : List ℕ → List Entry → Option Entry
 seen k [] = none
 seen k (h ∷ hs) = cond (keyBelow k (h .key)) none (cond (sameBytes k (h .key)) (some h) (seen k hs))
-
--- whether there is one
-unfoldable pub isHeld : Option Entry → Bool
-isHeld none = false
-isHeld (some h) = true
 
 -- a key's index, and whether it is held
 pub record Placed (k : List ℕ) (es : List Entry) (at : ℕ) (held : Bool) : Type 0 where
@@ -71,11 +67,12 @@ insertAt i w s =
 -- ---- offering an acceptable entry
 
 -- where it goes, by what is seen of its key; BAD_STORE where the bytes do not have the slot that is
--- to be written
+-- to be written (R258)
 unfoldable pub placementFor : List ℕ → Entry → Option Entry → Placement
 placementFor s e none =
-    cond (leb (slotsOf s) (usedOf s)) (Refused StoreFull)
-    (cond (hasSlot (usedOf s) s) (Insert (seek (e .key) (entriesOf s))) (Refused BadStore))
+    cond (ltb (e .stamp .phys) (lineOf s)) (Refused BelowLine)
+    (cond (leb (slotsOf s) (usedOf s)) (Refused StoreFull)
+    (cond (hasSlot (usedOf s) s) (Insert (seek (e .key) (entriesOf s))) (Refused BadStore)))
 placementFor s e (some h) =
     cond (not (beats e h)) Kept
     (cond (hasSlot (seek (e .key) (entriesOf s)) s) (Replace (seek (e .key) (entriesOf s))) (Refused BadStore))
@@ -105,12 +102,26 @@ unfoldable pub afterAll : List Entry → List ℕ → List ℕ
 afterAll [] s = s
 afterAll (e ∷ es) s = afterAll es (afterPlaced s e)
 
--- how many of some entries have a key that is not held
-unfoldable pub countNew : List Entry → List Entry → ℕ
-countNew hs [] = zero
-countNew hs (e ∷ es) = cond (isHeld (seen (e .key) hs)) (countNew hs es) (suc (countNew hs es))
+-- how many of some entries have a key that is not held and are not below the line
+unfoldable pub countNew : ℕ → List Entry → List Entry → ℕ
+countNew line hs [] = zero
+countNew line hs (e ∷ es) =
+    cond (isHeld (seen (e .key) hs)) (countNew line hs es)
+    (cond (ltb (e .stamp .phys) line) (countNew line hs es) (suc (countNew line hs es)))
 
--- ---- offering an entry: 9, 1, 2, 17, then 6 (R35, R198)
+-- and how many are below it
+unfoldable pub countPassed : ℕ → List Entry → List Entry → ℕ
+countPassed line hs [] = zero
+countPassed line hs (e ∷ es) =
+    cond (isHeld (seen (e .key) hs)) (countPassed line hs es)
+    (cond (ltb (e .stamp .phys) line) (suc (countPassed line hs es)) (countPassed line hs es))
+
+-- the two counts of a merge
+pub record Counted (line : ℕ) (hs es : List Entry) (new passed : ℕ) : Type 0 where
+  pub new-is : new ≡ countNew line hs es
+  pub passed-is : passed ≡ countPassed line hs es
+
+-- ---- offering an entry: 9, 1, 2, 17, then 34, then 6 (R35, R198, R258)
 unfoldable pub offerUnchecked : List ℕ → Entry → Answer
 offerUnchecked s e = cond (not (eqb (refusalOf e) 0)) (refused (refusalOf e)) (toldOf (placement s e))
 

@@ -1,21 +1,27 @@
-// The entry store: a new store, looking a key up, offering an entry, and merging one store into
-// another.
+// The entry store: a new store, looking a key up, offering an entry, merging one store into another,
+// and purging one of old tombstones.
+mod clear;
 mod write;
 
+use clear::clear;
 use entry::Acceptance;
 use entry::Refusal;
 use entry::Stamp;
+use entry::TIME_LIMIT;
 use entry::TOMBSTONE;
 use entry::beats;
 use entry::is_acceptable_key;
 use entry::judge;
 use image::has_slot;
 use image::is_sound;
+use image::layout::HEADER_FILL_AT;
 use image::layout::HEADER_WIDTH;
 use image::layout::KEY_AT;
+use image::layout::LINE_AT;
 use image::layout::MAX_SLOTS;
 use image::layout::SLOT_WIDTH;
 use image::layout::VALUE_AT;
+use image::purge_line;
 use image::put_header;
 use image::slot;
 use image::slot_count;
@@ -37,15 +43,16 @@ ghost use Prim.Native.Nat.{ℕ};
 ghost use lib.ListN.{length};
 ghost use Rattle.entry.specs.Entry.{entryOf, beats};
 ghost use Rattle.image.specs.Layout.{slotWidth};
-ghost use Rattle.image.specs.Image.{slotEntry, entriesOf, sound};
-ghost use Rattle.store.specs.Answer.{answerOf, mergeAnswerOf};
+ghost use Rattle.image.specs.Image.{slotEntry, lineOf, entriesOf, sound};
+ghost use Rattle.store.specs.Answer.{answerOf, mergeAnswerOf, purgeAnswerOf};
 ghost use Rattle.store.specs.Create.{createdNumber, createRefusal, afterCreate};
 ghost use Rattle.store.specs.Lookup.{findingOf, lookupAnswer, valuePart};
 ghost use Rattle.store.specs.Listing.{listingOf, entryAnswer};
 ghost use Rattle.store.specs.Offer.{offerAnswer, afterOffer};
 ghost use Rattle.store.specs.Merge.{mergeAnswer, afterMerge};
+ghost use Rattle.store.specs.Purge.{purgeAnswer, afterPurge};
 ghost use Rattle.store.specs.Overtaken.{overtakenUnchecked};
-ghost use Rattle.store.specs.Unchecked.{Placed, placement, toldOf, writtenAt, afterPlaced, afterAll, countNew, lookupUnchecked, offerUnchecked, afterOfferUnchecked};
+ghost use Rattle.store.specs.Unchecked.{Placed, placement, toldOf, writtenAt, afterPlaced, afterAll, Counted, lookupUnchecked, offerUnchecked, afterOfferUnchecked};
 
 // What became of a buffer that was to be a new store.
 pub enum Created {
@@ -84,9 +91,15 @@ pub enum Offered {
     Refused(Refusal),
 }
 
-// What became of a merge.
+// What became of a merge. `Done` has how many of the giver's entries were passed over.
 pub enum Merged {
-    Done,
+    Done(usize),
+    Refused(Refusal),
+}
+
+// What became of a purge. `Done` has how many entries were removed.
+pub enum Purged {
+    Done(usize),
     Refused(Refusal),
 }
 
@@ -94,6 +107,13 @@ pub enum Merged {
 struct Place {
     at: usize,
     held: bool,
+}
+
+// Of a giver's entries with a key that is new to the receiver, how many are taken, and how many are
+// passed over.
+struct Counts {
+    new: usize,
+    passed: usize,
 }
 
 // Where an entry goes in a store.
@@ -241,6 +261,9 @@ fn placement_of(store: &[u8], key: &[u8], value: &[u8], flag: u8, stamp: Stamp) 
         }
         return Placement::Replace(at);
     }
+    if stamp.phys < purge_line(store) {
+        return Placement::Refused(Refusal::BelowLine);
+    }
     let used = used_count(store);
     if slot_count(store) <= used {
         return Placement::Refused(Refusal::StoreFull);
@@ -274,9 +297,9 @@ fn place_entry(store: &mut [u8], key: &[u8], value: &[u8], flag: u8, stamp: Stam
 
 // Offers an entry with no test of soundness: for a caller that has tested it, and no entry point of
 // the module. On a sound store it is `offer`. On other bytes it follows the slots as they stand:
-// the entry may go to a wrong place among them, or be refused with StoreFull, or with BadStore
-// where the bytes do not have the slot that is to be written. It answers Stored or Replaced only if
-// the entry was written.
+// the entry may go to a wrong place among them, or be refused with BelowLine or StoreFull, or with
+// BadStore where the bytes do not have the slot that is to be written. It answers Stored or
+// Replaced only if the entry was written.
 pub fn offer_unchecked(
     store: &mut [u8],
     key: &[u8],
@@ -305,26 +328,36 @@ pub fn offer(store: &mut [u8], key: &[u8], value: &[u8], flag: u8, stamp: Stamp)
     offer_unchecked(store, key, value, flag, stamp)
 }
 
-// 0 for a key that is held, 1 for one that is not.
-fn tally(held: bool) -> usize
-    ensures { λ r. ⌜ r ≡ cond held 0 1 ⌝ }
+// 1 for a key that is not held, if it counts.
+fn tally(held: bool, counts: bool) -> usize
+    ensures { λ r. ⌜ r ≡ cond held 0 (cond counts 1 0) ⌝ }
 {
-    if held { 0 } else { 1 }
+    if held {
+        return 0;
+    }
+    if counts { 1 } else { 0 }
 }
 
-// How many of the giver's keys the receiver does not hold.
-fn count_new(receiver: &[u8], giver: &[u8]) -> usize
-    ensures { λ r. ⌜ r ≡ countNew (entriesOf (now (receiver .entry))) (entriesOf (now (giver .entry))) ⌝ }
+// Counts the giver's entries whose key the receiver does not hold: those at or above its purge line,
+// and those below.
+fn count_new(receiver: &[u8], giver: &[u8]) -> Counts
+    ensures { λ r. ⌜ Counted (lineOf (now (receiver .entry))) (entriesOf (now (receiver .entry))) (entriesOf (now (giver .entry))) (r .new) (r .passed) ⌝ }
 {
+    let line = purge_line(receiver);
     let used = used_count(giver);
-    let mut n: usize = 0;
+    let mut new: usize = 0;
+    let mut passed: usize = 0;
     let mut j = 0;
     while j < used {
-        let place = seek(receiver, slot_key(slot(giver, j)));
-        n += tally(place.held);
+        let given = slot(giver, j);
+        let place = seek(receiver, slot_key(given));
+        let stamp = slot_stamp(given);
+        let old = stamp.phys < line;
+        new += tally(place.held, !old);
+        passed += tally(place.held, old);
         j += 1;
     }
-    n
+    Counts { new, passed }
 }
 
 // Offers the entry of a giver's slot to the receiver. The slot's bytes are copied as they stand.
@@ -350,7 +383,8 @@ fn give(receiver: &mut [u8], slot: &[u8])
     }
 }
 
-// Offers each of a sound giver's entries to the receiver.
+// Offers each of a sound giver's entries to the receiver. Those that are passed over are refused
+// there, with BelowLine.
 fn give_all(receiver: &mut [u8], giver: &[u8])
     requires { ⌜ sound (now giver) ≡ true ⌝ }
     ensures { λ _. ⌜ now (receiver .exit) ≡ afterAll (entriesOf (now (giver .entry))) (now (receiver .entry)) ⌝ }
@@ -363,7 +397,8 @@ fn give_all(receiver: &mut [u8], giver: &[u8])
     }
 }
 
-// Merges the giver into the receiver: all of its entries, or none.
+// Merges the giver into the receiver, which has the same purge line: all of its entries but those
+// below the line for keys that are not held, or none.
 pub fn merge(receiver: &mut [u8], giver: &[u8]) -> Merged
     ensures told { λ r. ⌜ mergeAnswerOf r ≡ mergeAnswer (now (receiver .entry)) (now (giver .entry)) ⌝ }
     ensures left { λ _. ⌜ now (receiver .exit) ≡ afterMerge (now (receiver .entry)) (now (giver .entry)) ⌝ }
@@ -374,11 +409,34 @@ pub fn merge(receiver: &mut [u8], giver: &[u8]) -> Merged
     if !is_sound(giver) {
         return Merged::Refused(Refusal::BadStore);
     }
-    if slot_count(receiver) < used_count(receiver) + count_new(receiver, giver) {
+    if purge_line(receiver) != purge_line(giver) {
+        return Merged::Refused(Refusal::UnequalLines);
+    }
+    let counts = count_new(receiver, giver);
+    if slot_count(receiver) < used_count(receiver) + counts.new {
         return Merged::Refused(Refusal::StoreFull);
     }
     give_all(receiver, giver);
-    Merged::Done
+    Merged::Done(counts.passed)
+}
+
+// Removes the tombstones whose time is below the line, and sets the line.
+pub fn purge(store: &mut [u8], line: u64) -> Purged
+    ensures told { λ r. ⌜ purgeAnswerOf r ≡ purgeAnswer (now (store .entry)) line ⌝ }
+    ensures left { λ _. ⌜ now (store .exit) ≡ afterPurge (now (store .entry)) line ⌝ }
+{
+    if !is_sound(store) {
+        return Purged::Refused(Refusal::BadStore);
+    }
+    if TIME_LIMIT <= line {
+        return Purged::Refused(Refusal::BadTime);
+    }
+    if line < purge_line(store) {
+        return Purged::Refused(Refusal::LowerLine);
+    }
+    let removed = clear(store, line);
+    put_be(&mut store[LINE_AT..HEADER_FILL_AT], line);
+    Purged::Done(removed)
 }
 
 // Whether a stamp is overtaken by that of the entry held for a key, in a store that is known to

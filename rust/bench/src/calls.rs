@@ -1,8 +1,8 @@
 //! Single calls.
 
 use crate::inputs::{
-    deliveries, different_deliveries, greater, key, last_greater, peers, store, value, DELIVERED,
-    HELD, NEW, OLD, SALT,
+    deleted, deliveries, different_deliveries, greater, key, last_greater, peers, store, value,
+    DELIVERED, HELD, LINE, NEW, OLD, SALT,
 };
 use crate::measure::{by, medians, on_copies, steady, timer_cost, Subject, ROUNDS};
 use crate::table::{self, nanoseconds, Row};
@@ -28,8 +28,8 @@ pub fn tables() -> String {
         "Medians of {ROUNDS} rounds in which the subjects take short turns. Each row is from the\n\
          fastest of {PASSES} passes over its table. A ratio is the proved library's time over the\n\
          reference's.\n\n{}\n{times}\n\
-         Handler, offer and merge run on a fresh copy of the store each time. The copy is outside\n\
-         the timed part; the timer itself adds about {} ns to each such call.\n",
+         Handler, offer, merge and purge run on a fresh copy of the store each time. The copy is\n\
+         outside the timed part; the timer itself adds about {} ns to each such call.\n",
         checksums(),
         nanoseconds(timer_cost())
     )
@@ -152,7 +152,8 @@ fn handler_row(name: String, image: &[u8], frame: &[u8]) -> Row {
 
 fn store_rows() -> Vec<Row> {
     let rows = |length| [offer_rows(length), merge_rows(length)].concat();
-    [33, 512].into_iter().flat_map(rows).collect()
+    let rows = [33, 512].into_iter().flat_map(rows);
+    rows.chain(purge_rows()).collect()
 }
 
 /// Lookups and offers. At an equal stamp the values differ at the last byte.
@@ -218,6 +219,21 @@ fn offer_row(name: String, image: &[u8], key: &[u8], value: &[u8], stamp: Stamp)
 fn merge_row(name: String, image: &[u8], giver: &[u8]) -> Row {
     let proved = move |store: &mut [u8]| snowpulley::store::merge(store, giver).is_ok();
     let reference = move |store: &mut [u8]| reference_store::merge(store, giver).is_ok();
+    same_store(&name, image, &proved, &reference);
+    row(name, on_copies(image, proved), || {
+        on_copies(image, reference)
+    })
+}
+
+/// The entries that remain have values of 512 bytes.
+fn purge_rows() -> Vec<Row> {
+    let row = |count| purge_row(format!("purge {count} of 100"), &deleted(count));
+    [1, 50, 100].map(row).to_vec()
+}
+
+fn purge_row(name: String, image: &[u8]) -> Row {
+    let proved = |store: &mut [u8]| snowpulley::store::purge(store, LINE).is_ok();
+    let reference = |store: &mut [u8]| reference_store::purge(store, LINE).is_ok();
     same_store(&name, image, &proved, &reference);
     row(name, on_copies(image, proved), || {
         on_copies(image, reference)

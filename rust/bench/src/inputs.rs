@@ -3,6 +3,7 @@
 use reference::peers::PeerTable;
 use reference::stamp::Stamp;
 use reference::store::{create, image_length, offer};
+use reference::value::TOMBSTONE;
 use samples::script::{framed, repl_message};
 use snowpulley::audit::DELIVERIES_MAX;
 use support::Rng;
@@ -50,6 +51,18 @@ pub fn store(first: usize, used: usize, length: usize, stamp: Stamp) -> Vec<u8> 
     }
     image
 }
+
+/// A full store of which the first keys, so many, are deleted.
+pub fn deleted(count: usize) -> Vec<u8> {
+    let mut image = store(0, SLOTS, 512, HELD);
+    for index in 0..count {
+        offer(&mut image, &key(2 * index), &[], TOMBSTONE, NEW).expect("a right entry");
+    }
+    image
+}
+
+/// All that is held is below this line.
+pub const LINE: u64 = NEW.phys + 1;
 
 /// The key of all deliveries of a list.
 pub const DELIVERED: [u8; 64] = [b'k'; 64];

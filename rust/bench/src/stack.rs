@@ -5,8 +5,8 @@
 #![allow(unsafe_code)]
 
 use crate::inputs::{
-    deliveries, different_deliveries, greater, key, last_greater, peers, store, value, DELIVERED,
-    HELD, NEW, OLD, SALT, SLOTS,
+    deleted, deliveries, different_deliveries, greater, key, last_greater, peers, store, value,
+    DELIVERED, HELD, LINE, NEW, OLD, SALT, SLOTS,
 };
 use reference::frame::{Message, FRAME_MAX};
 use samples::script::{framed, put_message, repl_message};
@@ -39,6 +39,7 @@ fn measured() -> Vec<(&'static str, usize)> {
     rings(&mut most);
     frames(&mut most);
     stores(&mut most);
+    purges(&mut most);
     requests(&mut most);
     reports(&mut most);
     most.0
@@ -237,6 +238,27 @@ fn stores(most: &mut Most) {
             });
         }
     }
+}
+
+/// Purges that remove nothing, one entry or all, and merges that pass over what
+/// the purged store has removed.
+fn purges(most: &mut Most) {
+    for count in [0, 1, SLOTS] {
+        let image = deleted(count);
+        most.of("sp_store_purge", &image, |store| {
+            raw::store_purge(store, LINE)
+        });
+        let (purged, giver) = (purged(image), purged(deleted(0)));
+        most.of("sp_store_line", &[0], |line| raw::store_line(&purged, line));
+        most.of("sp_store_merge", &purged, |store| {
+            raw::store_merge(store, &giver)
+        });
+    }
+}
+
+fn purged(mut image: Vec<u8>) -> Vec<u8> {
+    snowpulley::store::purge(&mut image, LINE).expect("a right line");
+    image
 }
 
 fn requests(most: &mut Most) {

@@ -400,7 +400,16 @@ pub fn store_offer(
 }
 
 pub fn store_merge(receiver: &mut [u8], giver: &[u8]) -> u32 {
-    plain(store::merge(receiver, giver))
+    counted(store::merge(receiver, giver))
+}
+
+pub fn store_line(store: &[u8], line: &mut [u64]) -> u32 {
+    let held = store::line(store);
+    plain(held.and_then(|held| put_front(line, &[held])))
+}
+
+pub fn store_purge(store: &mut [u8], line: u64) -> u32 {
+    counted(store::purge(store, line))
 }
 
 pub fn handle(

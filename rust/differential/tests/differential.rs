@@ -2,6 +2,7 @@
 //! that the header names for a call, and each of its answers.
 
 use differential::families::reused::{LOWER_TIES, TIES};
+use differential::families::{handler, purge};
 use differential::FAMILIES;
 
 /// How many shares of cases each family runs, from several seeds.
@@ -82,13 +83,19 @@ fn ring() {
 
 #[test]
 fn store() {
-    let reach: [Reach; 8] = [
+    let reach: [Reach; 14] = [
         ("store_create", &[0], &[17, 4]),
         ("store_is_sound", &[0, 1], &[]),
         ("store_lookup", &[0, 1, 2], &[5, 1, 4]),
         ("store_entry", &[0], &[5, 17, 4]),
-        ("store_offer", &[0, 1, 2], &[5, 9, 1, 2, 17, 6]),
-        ("store_merge", &[0], &[5, 6]),
+        ("store_offer", &[0, 1, 2], &[5, 9, 1, 2, 17, 34, 6]),
+        ("store_merge", &[0, 1, 2], &[5, 35, 6]),
+        ("store_line", &[0], &[5, 4]),
+        ("store_purge", &[0, 1, 2], &[5, 9, 33]),
+        ("offer below the line", &purge::BELOW, &[]),
+        ("purge about the line", &[0, 1, 2, 3, 4, 5], &[]),
+        ("merge that fits by what it passes over", &[1], &[]),
+        ("removed, then refused", &[0, 1], &[]),
         ("offer at an equal stamp", &TIES, &[]),
         ("merge at an equal stamp", &TIES, &[]),
     ];
@@ -97,8 +104,9 @@ fn store() {
 
 #[test]
 fn handler() {
-    let reach: [Reach; 3] = [
-        ("handle", &[], &[17, 4, 5, 9, 3, 1, 2, 8, 7, 6]),
+    let reach: [Reach; 4] = [
+        ("handle", &[], &[17, 4, 5, 9, 3, 1, 2, 8, 7, 34, 6]),
+        ("refused below the line", &handler::BELOW, &[]),
         ("local write at an equal stamp", &TIES, &[]),
         ("REPL at an equal stamp", &TIES, &[]),
     ];

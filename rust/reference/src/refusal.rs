@@ -35,6 +35,9 @@ refusals! {
     SelfPeer = 15,
     BadRing = 16,
     BadArgument = 17,
+    LowerLine = 33,
+    BelowLine = 34,
+    UnequalLines = 35,
 }
 
 impl Refusal {

@@ -7,11 +7,16 @@ use crate::refusal::Refusal;
 use crate::stamp::{check_time, Stamp};
 use crate::value::{self, TOMBSTONE, VALUE_MAX};
 use std::collections::BTreeMap;
+use std::ops::Range;
 
 pub const SLOTS_MAX: usize = 100;
 /// The header's length, which is also the offset of the first slot.
 pub const HEADER: usize = 16;
 pub const WIDTH: usize = 596;
+
+// The header behind its four counts.
+const LINE: Range<usize> = 8..14;
+const HEADER_ZEROS: Range<usize> = 14..HEADER;
 
 // Where a slot's fields begin.
 const KEY_AT: usize = 16;
@@ -96,7 +101,7 @@ fn header_is_sound(store: &[u8]) -> bool {
     (1..=SLOTS_MAX).contains(&slots)
         && used <= slots
         && store[..8] == header(slots, used)
-        && is_zero(&store[8..HEADER])
+        && is_zero(&store[HEADER_ZEROS])
         && store.len() == image_length(slots)
 }
 
@@ -124,6 +129,11 @@ pub fn slot_count(store: &[u8]) -> usize {
 /// The header's number of used slots; the image must have a header.
 pub fn used_count(store: &[u8]) -> usize {
     number_from(&store[2..4]) as usize
+}
+
+/// The header's purge line.
+fn line_of(store: &[u8]) -> u64 {
+    number_from(&store[LINE])
 }
 
 fn slot_at(store: &[u8], index: usize) -> &[u8] {
@@ -274,6 +284,7 @@ pub(crate) fn offer_to_sound(
             write_slot(store, index, &entry);
             Ok(Offered::Replaced)
         }
+        Err(_) if stamp.phys < line_of(store) => Err(Refusal::BelowLine),
         Err(index) => {
             insert(store, index, &entry)?;
             Ok(Offered::Stored)
@@ -315,27 +326,66 @@ fn slot_of(entry: &Entry) -> Vec<u8> {
     slot
 }
 
-/// Offers every entry of the giver to the receiver: all of them or none.
-pub fn merge(receiver: &mut [u8], giver: &[u8]) -> Result<(), Refusal> {
+/// Makes the entries, which are in key order, those of a store that has slots
+/// enough; the line stays.
+fn write_entries<'a>(store: &mut [u8], entries: impl ExactSizeIterator<Item = &'a Entry>) {
+    let (slots, used) = (slot_count(store), entries.len());
+    store[..8].copy_from_slice(&header(slots, used));
+    for (index, entry) in entries.enumerate() {
+        write_slot(store, index, entry);
+    }
+    store[image_length(used)..].fill(0);
+}
+
+/// Offers every entry of the giver to the receiver: all of them or none. Those
+/// below the line whose key the receiver does not hold are passed over; how many
+/// they are.
+pub fn merge(receiver: &mut [u8], giver: &[u8]) -> Result<usize, Refusal> {
     let mut held = BTreeMap::new();
     for entry in entries(receiver)? {
         held.insert(entry.key.clone(), entry);
     }
-    for entry in entries(giver)? {
-        let kept = held
-            .get(&entry.key)
-            .is_some_and(|h| h.rank() >= entry.rank());
-        if !kept {
-            held.insert(entry.key.clone(), entry);
+    let given = entries(giver)?;
+    let line = line_of(receiver);
+    if line_of(giver) != line {
+        return Err(Refusal::UnequalLines);
+    }
+    let mut passed_over = 0;
+    for entry in given {
+        match held.get(&entry.key) {
+            Some(h) if h.rank() >= entry.rank() => {}
+            None if entry.stamp.phys < line => passed_over += 1,
+            _ => {
+                held.insert(entry.key.clone(), entry);
+            }
         }
     }
-    let slots = slot_count(receiver);
-    if held.len() > slots {
+    if held.len() > slot_count(receiver) {
         return Err(Refusal::StoreFull);
     }
-    receiver[..8].copy_from_slice(&header(slots, held.len()));
-    for (index, entry) in held.values().enumerate() {
-        write_slot(receiver, index, entry);
+    write_entries(receiver, held.values());
+    Ok(passed_over)
+}
+
+/// The purge line, 0 in a new store.
+pub fn line(store: &[u8]) -> Result<u64, Refusal> {
+    if !is_sound(store) {
+        return Err(Refusal::BadStore);
     }
-    Ok(())
+    Ok(line_of(store))
+}
+
+/// Removes the tombstones whose time is below the line, and sets the store's
+/// line to it; how many were removed.
+pub fn purge(store: &mut [u8], line: u64) -> Result<usize, Refusal> {
+    let mut kept = entries(store)?;
+    check_time(line)?;
+    if line < line_of(store) {
+        return Err(Refusal::LowerLine);
+    }
+    let before = kept.len();
+    kept.retain(|entry| entry.flag != TOMBSTONE || entry.stamp.phys >= line);
+    write_entries(store, kept.iter());
+    store[LINE].copy_from_slice(&time_bytes(line));
+    Ok(before - kept.len())
 }

@@ -8,7 +8,7 @@ use reference::Refusal;
 #[test]
 fn the_numbers_of_the_refusals() {
     let numbers: Vec<u8> = Refusal::ALL.iter().map(|r| r.number()).collect();
-    assert_eq!(numbers, (1..=17).collect::<Vec<u8>>());
+    assert_eq!(numbers, (1..=17).chain(33..=35).collect::<Vec<u8>>());
     for number in 0..=255 {
         let refusal = Refusal::from_number(number);
         assert_eq!(refusal.is_some(), numbers.contains(&number));

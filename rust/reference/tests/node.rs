@@ -1,25 +1,19 @@
 //! The request handler.
 
 mod contents;
+mod stores;
 
 use contents::ascending;
 use reference::clock::Clock;
 use reference::frame::{read, sealed, Message};
 use reference::node::{handle, Answer};
 use reference::stamp::Stamp;
-use reference::store::{create, entries, image_length, is_sound, offer};
+use reference::store::{entries, is_sound, offer, purge};
 use reference::Refusal;
 use std::cmp::Ordering;
 use std::collections::BTreeMap;
+use stores::{fresh, stamp, LATE};
 use support::Rng;
-
-const LATE: u64 = 1 << 48;
-
-fn fresh(slots: usize) -> Vec<u8> {
-    let mut image = vec![0; image_length(slots)];
-    create(&mut image, slots).unwrap();
-    image
-}
 
 fn framed(message: &Message) -> Vec<u8> {
     let mut out = [0; 600];
@@ -40,14 +34,6 @@ fn get(key: &[u8]) -> Vec<u8> {
 
 fn del(key: &[u8]) -> Vec<u8> {
     framed(&Message::Del { key: key.to_vec() })
-}
-
-fn stamp(phys: u64, logical: u16, node: u8) -> Stamp {
-    Stamp {
-        phys,
-        logical,
-        node,
-    }
 }
 
 fn repl(key: &[u8], flag: u8, stamp: Stamp, value: &[u8]) -> Vec<u8> {
@@ -237,6 +223,53 @@ fn replicated_entries_at_an_equal_stamp_are_compared() {
     }
 }
 
+/// Two slots, one of them with a key of which a tombstone was removed.
+fn purged() -> Node {
+    let mut node = Node::new(2);
+    node.ok(1000, &put(b"held", b"v"));
+    node.ok(1001, &del(b"gone"));
+    assert_eq!(purge(&mut node.store, 2000), Ok(1));
+    node
+}
+
+#[test]
+fn below_the_line_keys_that_are_not_held_are_refused() {
+    let mut node = purged();
+    for now in [1001, 1500, 1999] {
+        node.refused(now, &put(b"gone", b"old"), Refusal::BelowLine);
+        node.refused(now, &del(b"gone"), Refusal::BelowLine);
+    }
+    for flag in [0, 1] {
+        let below = repl(b"new", flag, stamp(1999, 9, 9), b"");
+        node.refused(2000, &below, Refusal::BelowLine);
+        node.refused(5000, &below, Refusal::BelowLine);
+    }
+    assert_eq!(node.clock, clock(1001, 0));
+    assert_eq!(node.ask(1500, &get(b"gone")), Message::NotFound);
+    node.ok(1500, &put(b"held", b"w"));
+    assert_eq!(node.ask(1500, &get(b"held")), value(b"w"));
+    node.ok(1501, &repl(b"held", 0, stamp(1400, 0, 2), b"kept"));
+    node.ok(1501, &del(b"held"));
+    node.ok(2000, &put(b"gone", b"new"));
+    assert_eq!(node.ask(2000, &get(b"gone")), value(b"new"));
+}
+
+/// A full store: 34 comes before 6, and 8 before both.
+#[test]
+fn the_line_comes_before_the_full_store() {
+    let mut node = purged();
+    node.ok(2000, &put(b"second", b""));
+    for (phys, refusal) in [(1999, Refusal::BelowLine), (2000, Refusal::StoreFull)] {
+        let new = repl(b"third", 0, stamp(phys, 0, 2), b"");
+        node.refused(2000, &new, refusal);
+    }
+    node.clock = clock(1500, 7);
+    node.refused(1999, &put(b"third", b""), Refusal::BelowLine);
+    node.refused(2000, &put(b"third", b""), Refusal::StoreFull);
+    node.clock = clock(1500, 65_535);
+    node.refused(1500, &put(b"third", b""), Refusal::ClockSpent);
+}
+
 #[test]
 fn a_spent_clock_stops_writes_but_not_reads() {
     let mut node = Node::new(1);
@@ -366,6 +399,7 @@ fn held_by(store: &[u8]) -> Held {
 /// The handler's rules once more, over a map.
 struct Naive {
     slots: usize,
+    line: u64,
     clock: (u64, u64),
     skew: u32,
     held: Held,
@@ -377,6 +411,7 @@ impl Naive {
     fn new(slots: usize) -> Naive {
         Naive {
             slots,
+            line: 0,
             clock: (0, 0),
             skew: 0,
             held: Held::new(),
@@ -463,11 +498,21 @@ impl Naive {
     }
 
     fn hold(&mut self, key: &[u8], stamp: Stamp, value: Option<Vec<u8>>) -> Result<(), u8> {
-        if !self.held.contains_key(key) && self.held.len() == self.slots {
+        let is_new = !self.held.contains_key(key);
+        if is_new && stamp.phys < self.line {
+            return Err(34);
+        }
+        if is_new && self.held.len() == self.slots {
             return Err(6);
         }
         self.held.insert(key.to_vec(), (stamp, value));
         Ok(())
+    }
+
+    fn purge(&mut self, line: u64) {
+        self.line = line;
+        self.held
+            .retain(|_, (stamp, value)| value.is_some() || stamp.phys >= line);
     }
 }
 
@@ -541,6 +586,11 @@ fn random_requests_agree_with_the_naive_handler() {
         let mut now = 0;
         for _ in 0..300 {
             now = (now + rng.below(12)).saturating_sub(rng.below(10));
+            if rng.one_in(20) {
+                let line = naive.line.max((now + 4).saturating_sub(rng.below(20)));
+                purge(&mut node.store, line).unwrap();
+                naive.purge(line);
+            }
             let request = next_request(&mut rng, now, &naive.held);
             let reply = node.ask(now, &framed(&request));
             assert_eq!(reply, naive.answer(now, &request));
@@ -557,7 +607,7 @@ fn random_requests_agree_with_the_naive_handler() {
         assert_eq!(held_by(&node.store), naive.held);
         ties.extend(naive.ties);
     }
-    for number in [3, 6, 7, 8] {
+    for number in [3, 6, 7, 8, 34] {
         assert!(numbers[number] > 10, "{numbers:?}");
     }
     for order in [Ordering::Less, Ordering::Equal, Ordering::Greater] {

@@ -1,33 +1,21 @@
 //! The entry store.
 
 mod contents;
+mod drawn;
+mod stores;
 
 use contents::ascending;
+use drawn::{random_entry, Delivered};
 use reference::checksum::crc32c_bits;
-use reference::stamp::Stamp;
 use reference::store::{
-    create, entries, entry, image_length, is_sound, lookup, merge, offer, used_count, value, Entry,
-    Found, Offered,
+    create, entries, entry, image_length, is_sound, line, lookup, merge, offer, purge, used_count,
+    value, Entry, Found, Offered,
 };
 use reference::Refusal;
 use std::collections::{BTreeMap, BTreeSet};
+use std::ops::Range;
+use stores::{fresh, stamp, LATE};
 use support::Rng;
-
-const LATE: u64 = 1 << 48;
-
-fn fresh(slots: usize) -> Vec<u8> {
-    let mut image = vec![0xA5; image_length(slots)];
-    create(&mut image, slots).unwrap();
-    image
-}
-
-fn stamp(phys: u64, logical: u16, node: u8) -> Stamp {
-    Stamp {
-        phys,
-        logical,
-        node,
-    }
-}
 
 fn give(store: &mut [u8], key: &[u8], value: &[u8], phys: u64) -> Result<Offered, Refusal> {
     offer(store, key, value, 0, stamp(phys, 0, 0))
@@ -47,6 +35,7 @@ fn a_fresh_store() {
     expected.extend([0; 1200]);
     assert_eq!(fresh(2), expected);
     assert!(is_sound(&fresh(1)) && is_sound(&fresh(100)));
+    assert_eq!(line(&fresh(1)), Ok(0));
     assert_eq!(image_length(100), 59_616);
 }
 
@@ -275,10 +264,10 @@ fn merging_is_all_or_none() {
     let held = receiver.clone();
     assert_eq!(merge(&mut receiver, &giver), Err(Refusal::StoreFull));
     assert_eq!(receiver, held);
-    assert_eq!(merge(&mut giver, &receiver), Ok(()));
+    assert_eq!(merge(&mut giver, &receiver), Ok(0));
     assert_eq!(value(&giver, b"a"), b"new");
     let mut larger = fresh(100);
-    assert_eq!(merge(&mut larger, &giver), Ok(()));
+    assert_eq!(merge(&mut larger, &giver), Ok(0));
     assert_eq!(entries(&larger), entries(&giver));
 }
 
@@ -286,14 +275,14 @@ fn merging_is_all_or_none() {
 fn merging_refusals_and_repeats() {
     let mut image = sample();
     let same = image.clone();
-    assert_eq!(merge(&mut image, &same), Ok(()));
-    assert_eq!(merge(&mut image, &fresh(100)), Ok(()));
+    assert_eq!(merge(&mut image, &same), Ok(0));
+    assert_eq!(merge(&mut image, &fresh(100)), Ok(0));
     assert_eq!(merge(&mut image, &same[1..]), Err(Refusal::BadStore));
     assert_eq!(merge(&mut image, &[]), Err(Refusal::BadStore));
     assert_eq!(merge(&mut image[1..], &same), Err(Refusal::BadStore));
     assert_eq!(image, same);
     let mut copy = fresh(3);
-    assert_eq!(merge(&mut copy, &same), Ok(()));
+    assert_eq!(merge(&mut copy, &same), Ok(0));
     assert_eq!(copy, same);
 }
 
@@ -310,8 +299,8 @@ fn any_order_at_one_stamp_ends_alike() {
             let mut one = holding(&offers[..split]);
             let mut two = holding(&offers[split..]);
             let before = one.clone();
-            assert_eq!(merge(&mut one, &two), Ok(()));
-            assert_eq!(merge(&mut two, &before), Ok(()));
+            assert_eq!(merge(&mut one, &two), Ok(0));
+            assert_eq!(merge(&mut two, &before), Ok(0));
             assert!(one == greatest && two == greatest, "{places:?}, {split}");
         }
     }
@@ -350,12 +339,17 @@ fn assert_unsound(image: &[u8]) {
     let mut lent = image.to_vec();
     assert_eq!(give(&mut lent, b"a", b"", 99), Err(Refusal::BadStore));
     assert_eq!(merge(&mut lent, &fresh(1)), Err(Refusal::BadStore));
+    assert_eq!(purge(&mut lent, 99), Err(Refusal::BadStore));
     assert_eq!(lent, image);
+    assert_eq!(line(image), Err(Refusal::BadStore));
     assert_eq!(merge(&mut fresh(1), image), Err(Refusal::BadStore));
     assert_eq!(lookup(image, b"a"), Err(Refusal::BadStore));
     assert_eq!(value(image, b"a"), b"");
     assert_eq!(entries(image), Err(Refusal::BadStore));
 }
+
+/// Where the header's line stands: any line is sound.
+const LINE: Range<usize> = 8..14;
 
 #[test]
 fn every_flipped_bit_is_found() {
@@ -363,13 +357,31 @@ fn every_flipped_bit_is_found() {
     for bit in 0..image.len() * 8 {
         let mut damaged = image.clone();
         damaged[bit / 8] ^= 1 << (bit % 8);
-        assert!(!is_sound(&damaged), "bit {bit}");
+        assert_eq!(is_sound(&damaged), LINE.contains(&(bit / 8)), "bit {bit}");
     }
-    for byte in 0..image.len() {
+    for byte in (0..image.len()).filter(|byte| !LINE.contains(byte)) {
         let mut damaged = image.clone();
         damaged[byte] ^= 0xFF;
         assert_unsound(&damaged);
     }
+}
+
+/// The held tombstone may be below the line: it may have come in the place of
+/// another entry.
+#[test]
+fn any_line_is_sound() {
+    let image = sample();
+    for (at, place) in LINE.zip((0..6).rev()) {
+        for byte in [1, 20, 21, 255] {
+            let mut lined = image.clone();
+            lined[at] = byte;
+            assert_eq!(line(&lined), Ok(u64::from(byte) << (8 * place)));
+            assert_eq!(entries(&lined), entries(&image));
+        }
+    }
+    let mut lined = image;
+    lined[LINE].fill(255);
+    assert_eq!(line(&lined), Ok(LATE - 1));
 }
 
 #[test]
@@ -462,10 +474,6 @@ fn reserved_keys_in_a_slot_are_found() {
     assert_unsound(&image);
 }
 
-/// One delivered entry: key, stamp, flag, value. They are compared in that
-/// order.
-type Delivered = (Vec<u8>, Stamp, u8, Vec<u8>);
-
 /// Says what every call must answer, from the entries delivered alone.
 struct Book {
     slots: Vec<usize>,
@@ -504,14 +512,14 @@ impl Book {
         set.any(|e| (&e.0, e.1) == (&entry.0, entry.1) && e != entry)
     }
 
-    fn merge(&mut self, receiver: usize, giver: usize) -> Result<(), Refusal> {
+    fn merge(&mut self, receiver: usize, giver: usize) -> Result<usize, Refusal> {
         let both: BTreeSet<Delivered> = &self.sets[receiver] | &self.sets[giver];
         let keys: BTreeSet<&[u8]> = both.iter().map(|e| &e.0[..]).collect();
         if keys.len() > self.slots[receiver] {
             return Err(Refusal::StoreFull);
         }
         self.sets[receiver] = both;
-        Ok(())
+        Ok(0)
     }
 
     /// The greatest entry of each key.
@@ -528,27 +536,8 @@ impl Book {
 
     /// The image those entries must have.
     fn image(&self, store: usize) -> Vec<u8> {
-        let held = self.held(store);
-        let (slots, used) = (self.slots[store] as u8, held.len() as u8);
-        let mut image = vec![0, slots, 0, used, 2, 0x54, 0, 0x10];
-        image.resize(16, 0);
-        for (key, stamp, flag, value) in held.into_values() {
-            let start = image.len();
-            image.extend([
-                key.len() as u8,
-                *flag,
-                (value.len() >> 8) as u8,
-                value.len() as u8,
-            ]);
-            image.extend(&stamp.phys.to_be_bytes()[2..]);
-            image.extend([(stamp.logical >> 8) as u8, stamp.logical as u8, stamp.node]);
-            image.extend([0; 3]);
-            image.extend(key.iter().copied().chain([0; 64]).take(64));
-            image.extend(value.iter().copied().chain([0; 512]).take(512));
-            image.extend(crc32c_bits(&image[start..]).to_be_bytes());
-        }
-        image.resize(16 + 596 * usize::from(slots), 0);
-        image
+        let held: Vec<&Delivered> = self.held(store).into_values().collect();
+        drawn::image(self.slots[store], 0, &held)
     }
 }
 
@@ -565,27 +554,6 @@ fn first_fault((key, stamp, flag, value): &Delivered) -> Result<(), Refusal> {
     } else {
         Ok(())
     }
-}
-
-/// An entry from a small choice of keys, stamps and contents, so that entries
-/// often share key and stamp, and often differ then.
-fn random_entry(rng: &mut Rng) -> Delivered {
-    let keys = [&b"a"[..], b"ab", b"b", b"k\0", b"k", &[255; 64], b"z"];
-    let key = keys[rng.index(keys.len())].to_vec();
-    let stamp = stamp(rng.below(3), rng.below(2) as u16, rng.below(2) as u8);
-    if rng.one_in(4) {
-        return (key, stamp, 1, Vec::new());
-    }
-    let length = if rng.one_in(5) {
-        511 + rng.index(2)
-    } else {
-        rng.index(4)
-    };
-    let mut value = vec![1; length];
-    if let Some(last) = value.last_mut() {
-        *last = rng.below(3) as u8;
-    }
-    (key, stamp, 0, value)
 }
 
 fn random_unacceptable(rng: &mut Rng) -> Delivered {

@@ -77,7 +77,9 @@ fn stores() -> Vec<Example> {
     found.push((stored, bytes.clone()));
     store::offer(&mut bytes, KEY, &[], TOMBSTONE, DELETED).expect("a tombstone");
     let deleted = "the same after k1 deleted at (1001, 0, 1)".to_string();
-    found.push((deleted, bytes));
+    found.push((deleted, bytes.clone()));
+    store::purge(&mut bytes, 1002).expect("a line");
+    found.push(("the same after a purge to 1002".to_string(), bytes));
     found
 }
 

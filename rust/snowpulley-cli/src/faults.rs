@@ -22,7 +22,7 @@ const SLOTS_RANGE: Fault = fault("SLOTS", "the number of slots is not from 1 to 
 const USED: Fault = fault("USED", "more slots are used than there are");
 const WIDTH: Fault = fault("SLOT_WIDTH", "the slot width is not 596");
 const OFFSET: Fault = fault("FIRST_SLOT", "the offset of the first slot is not 16");
-const HEADER_ZEROS: Fault = fault("HEADER_ZEROS", "bytes 8 to 15 are not all zero");
+const HEADER_ZEROS: Fault = fault("HEADER_ZEROS", "bytes 14 and 15 are not both zero");
 const LENGTH: Fault = fault("LENGTH", "the length is not 16 + 596 for each slot");
 
 const KEY: Fault = fault("KEY", "the key is one that is refused with BAD_KEY");
@@ -169,7 +169,13 @@ mod tests {
         assert_eq!(name(&changed(3, 4)), Some((None, "USED")));
         assert_eq!(name(&changed(5, 0)), Some((None, "SLOT_WIDTH")));
         assert_eq!(name(&changed(7, 0)), Some((None, "FIRST_SLOT")));
-        assert_eq!(name(&changed(15, 1)), Some((None, "HEADER_ZEROS")));
+        for at in 14..16 {
+            assert_eq!(name(&changed(at, 1)), Some((None, "HEADER_ZEROS")));
+        }
+        // Any line is right.
+        for at in 8..14 {
+            assert_eq!(name(&changed(at, 255)), None);
+        }
     }
 
     #[test]

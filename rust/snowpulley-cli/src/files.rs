@@ -2,8 +2,8 @@
 
 use crate::cli::{failure, Failure};
 use std::ffi::OsStr;
-use std::fs::{self, File, Metadata};
-use std::io::{self, Read};
+use std::fs::{self, File, Metadata, Permissions};
+use std::io::{self, Read, Write};
 use std::os::fd::AsFd;
 use std::os::unix::fs::MetadataExt;
 use std::path::{Path, PathBuf};
@@ -31,6 +31,39 @@ pub fn name(path: &OsStr) -> String {
 
 pub fn write(path: &OsStr, bytes: &[u8]) -> Result<(), Failure> {
     fs::write(path, bytes).map_err(|error| named(path, &error))
+}
+
+/// Puts the bytes in the place of a file's: a new file beside it, with its
+/// permissions, takes its name when all of them are written. So the old bytes
+/// or the new ones are there, whatever happens.
+pub fn replace(path: &OsStr, bytes: &[u8]) -> Result<(), Failure> {
+    replaced(Path::new(path), bytes).map_err(|error| named(path, &error))
+}
+
+fn replaced(path: &Path, bytes: &[u8]) -> io::Result<()> {
+    let metadata = path.metadata()?;
+    if !metadata.is_file() {
+        return Err(io::Error::other("no file that can be replaced"));
+    }
+    // By a link, the file that it leads to.
+    let path = path.canonicalize()?;
+    let mut name = path.file_name().unwrap_or_default().to_os_string();
+    name.push(format!(".new-{}", std::process::id()));
+    let beside = path.with_file_name(name);
+    let mut file = File::create_new(&beside)?;
+    let moved =
+        fill(&mut file, bytes, metadata.permissions()).and_then(|()| fs::rename(&beside, &path));
+    if moved.is_err() {
+        // The first error is the one to tell.
+        let _ = fs::remove_file(&beside);
+    }
+    moved
+}
+
+fn fill(file: &mut File, bytes: &[u8], permissions: Permissions) -> io::Result<()> {
+    file.set_permissions(permissions)?;
+    file.write_all(bytes)?;
+    file.sync_all()
 }
 
 fn named(path: &OsStr, error: &io::Error) -> Failure {

@@ -12,8 +12,12 @@ use std::path::Path;
 fn files_that_cannot_be_used_are_named() {
     let missing = temporary("no-such-file");
     let name = missing.to_str().unwrap();
-    for command in ["show", "replay"] {
-        let run = run(&[command, name]);
+    for words in [
+        &["show", name][..],
+        &["replay", name],
+        &["purge", name, "1"],
+    ] {
+        let (run, command) = (run(words), words[0]);
         assert_eq!((run.status, run.out.as_str()), (2, ""));
         let told = format!("snowpulley: {command}: {name:?}: No such file");
         assert!(run.err.starts_with(&told), "{run:?}");
@@ -65,7 +69,8 @@ fn an_output_that_is_the_input_is_refused() {
     let [list, journal] = &bytes;
     let [list, journal] = [("files-list", list), ("files-journal", journal)]
         .map(|(name, bytes)| file(name, bytes).to_str().unwrap().to_string());
-    let commands: [(&str, &[&str]); 4] = [
+    let commands: [(&str, &[&str]); 5] = [
+        (&list, &["purge", &list, "1", "--output"]),
         (&list, &["audit", &list, "k", "--html"]),
         (&journal, &["replay", &journal, "--store"]),
         (&journal, &["replay", &journal, "--replies"]),
@@ -130,4 +135,5 @@ fn a_dash_is_no_output() {
         run(&["replay", "-", option, "-"]).fails(&format!("replay: {option} {told}"));
     }
     run(&["ring", "--ids", "1", "--svg=-"]).fails(&format!("ring: --svg {told}"));
+    run(&["purge", "-", "1", "--output=-"]).fails(&format!("purge: --output {told}"));
 }

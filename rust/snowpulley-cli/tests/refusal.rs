@@ -21,9 +21,9 @@ fn one_refusal_is_explained() {
 
 #[test]
 fn a_number_that_no_refusal_has_is_a_negative_answer() {
-    let none = run(&["refusal", "99"]);
-    assert_eq!(
-        (none.status, none.out.as_str()),
-        (1, "no refusal has the number 99\n")
-    );
+    for number in ["0", "18", "32", "36", "99"] {
+        let none = run(&["refusal", number]);
+        let told = format!("no refusal has the number {number}\n");
+        assert_eq!((none.status, none.out), (1, told));
+    }
 }

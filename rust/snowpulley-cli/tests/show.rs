@@ -4,7 +4,7 @@ mod common;
 
 use common::{file, run, run_with};
 use reference::stamp::{Stamp, TIME_END};
-use reference::store::{create, image_length, offer};
+use reference::store::{create, image_length, offer, purge};
 use std::path::Path;
 use support::Rng;
 
@@ -55,6 +55,15 @@ fn a_store_that_holds_nothing_and_one_that_is_full() {
     run_with(&["show", "-"], &image).says(0, "show-empty.txt");
     offer(&mut image, b"k", b"v", 0, stamp(1, 2, 3)).unwrap();
     run_with(&["show", "-"], &image).says(0, "show-full.txt");
+}
+
+#[test]
+fn a_purged_store() {
+    let mut image = image();
+    purge(&mut image, 1_736_836_800_001).unwrap();
+    show(&file("show-purged", &image)).says(0, "show-purged.txt");
+    image[14] = 1;
+    show(&file("show-zeros", &image)).says(1, "show-zeros.txt");
 }
 
 #[test]

@@ -4,8 +4,8 @@ mod common;
 
 use common::run;
 
-const COMMANDS: [&str; 7] = [
-    "demo", "show", "replay", "audit", "owners", "ring", "refusal",
+const COMMANDS: [&str; 8] = [
+    "demo", "show", "purge", "replay", "audit", "owners", "ring", "refusal",
 ];
 
 #[test]
@@ -30,6 +30,7 @@ fn every_command_has_help() {
     }
     run(&["ring", "--help"]).says(0, "help-ring.txt");
     run(&["audit", "--help"]).says(0, "help-audit.txt");
+    run(&["purge", "--help"]).says(0, "help-purge.txt");
     run(&["replay", "--help"]).says(0, "help-replay.txt");
 }
 
@@ -45,6 +46,13 @@ fn bad_usage_is_told() {
     run(&["show", "a", "b"]).fails("show: too many words: 'b'");
     run(&["show", "--fill", "a"]).fails("show: no option '--fill'");
     run(&["demo", "now"]).fails("demo: too many words: 'now'");
+    run(&["purge"]).fails("purge: STORE is missing");
+    run(&["purge", "a"]).fails("purge: LINE is missing");
+    run(&["purge", "-", "1"]).fails("purge: standard input needs --output FILE");
+    let range = "is no number from 0 to 281474976710655";
+    run(&["purge", "a", "281474976710656"])
+        .fails(&format!("purge: LINE: '281474976710656' {range}"));
+    run(&["purge", "a", "x"]).fails(&format!("purge: LINE: 'x' {range}"));
     run(&["replay", "--store"]).fails("replay: --store needs a value");
     run(&["replay", "-", "--key", "k"]).fails("replay: --key needs --deliveries");
     run(&["replay", "-", "--hex"]).fails("replay: --hex needs --key");

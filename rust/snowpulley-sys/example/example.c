@@ -1,7 +1,8 @@
 /* Modules of a site: settings are written on module 1, the owners of one are named, the entries
  * are listed and sent to module 2, its store is merged into a spare one, and of what was sent to it
  * a report says which delivery of a key is in force. Then module 1 gives a stamp twice, and modules
- * 2 and 3 still come to hold the same. C99, and C++11. */
+ * 2 and 3 still come to hold the same. At last a deletion is cleared, and what module 4, which
+ * slept, holds of it is refused. C99, and C++11. */
 #include <stdio.h>
 #include <string.h>
 
@@ -23,6 +24,7 @@ typedef struct {
 
 static module one, two, three;
 static module card; /* a copy of module 1 */
+static module four; /* sleeps from the first deletion on */
 static uint8_t spare[SP_STORE_BYTES(SLOTS)];
 
 static const uint8_t *bytes(const char *text) { return (const uint8_t *)text; }
@@ -263,13 +265,40 @@ static void give_a_stamp_twice(void) {
     print_report(&three, "comp/scale-3");
 }
 
+/* ---- A purge */
+
+static void purge(module *m, uint64_t line) {
+    uint64_t before = 0, now = 0;
+    sp_result r;
+    refused("sp_store_line", sp_store_line(m->store, sizeof m->store, &before, 1));
+    r = sp_store_purge(m->store, sizeof m->store, line);
+    refused("sp_store_purge", r);
+    refused("sp_store_line", sp_store_line(m->store, sizeof m->store, &now, 1));
+    printf("module %u, purge line from %llu to %llu: tombstones removed: %u\n", m->id,
+           (unsigned long long)before, (unsigned long long)now, SP_ANSWER(r));
+}
+
+/* Modules 2 and 3 hold the same, and are purged to one line: the test load's slot is free again.
+ * Its value, which module 4 still has, is older than the line. */
+static void clear_a_deletion(void) {
+    purge(&two, MORNING + 20);
+    purge(&three, MORNING + 20);
+    send_all(&four, &two, MORNING + 21);
+    refused("sp_store_merge", sp_store_merge(two.store, sizeof two.store, four.store,
+                                             sizeof four.store));
+    get(&two, MORNING + 22, "test-load");
+}
+
 int main(void) {
     create(&one, 1);
     create(&two, 2);
     create(&three, 3);
+    create(&four, 4);
 
     put(&one, MORNING, "comp/scale-3", "+120 ppm");
     put(&one, MORNING + 1, "test-load", "50 kg");
+    refused("sp_store_merge",
+            sp_store_merge(four.store, sizeof four.store, one.store, sizeof one.store));
     put(&one, MORNING + 2, "_sys:boot", "1");
     del(&one, MORNING + 3, "test-load");
     print_owners(MORNING + 4, "comp/scale-3");
@@ -298,5 +327,6 @@ int main(void) {
     print_report(&two, "comp/scale-9");
 
     give_a_stamp_twice();
+    clear_a_deletion();
     return memcmp(two.store, three.store, sizeof two.store) != 0;
 }

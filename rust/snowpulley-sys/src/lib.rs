@@ -18,6 +18,9 @@ pub const SP_PEER_KNOWN: u16 = 14;
 pub const SP_SELF: u16 = 15;
 pub const SP_BAD_RING: u16 = 16;
 pub const SP_BAD_ARGUMENT: u16 = 17;
+pub const SP_LOWER_LINE: u16 = 33;
+pub const SP_BELOW_LINE: u16 = 34;
+pub const SP_UNEQUAL_LINES: u16 = 35;
 
 pub const SP_KEY_MAX: usize = 64;
 pub const SP_VALUE_MAX: usize = 512;
@@ -246,6 +249,13 @@ extern "C" {
         giver: *const u8,
         giver_len: usize,
     ) -> u32;
+    pub fn sp_store_line(
+        store: *const u8,
+        store_len: usize,
+        line: *mut u64,
+        line_len: usize,
+    ) -> u32;
+    pub fn sp_store_purge(store: *mut u8, store_len: usize, line: u64) -> u32;
 
     pub fn sp_handle(
         store: *mut u8,

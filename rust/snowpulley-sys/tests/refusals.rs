@@ -112,7 +112,7 @@ fn one_name_and_one_number() {
     let (code, specs) = (code("entry"), text("crates/entry/specs/Refusal.antt"));
     let model = text("rust/reference/src/refusal.rs");
     let right = numbers(&code);
-    assert!(right.len() >= 17, "the code has {} numbers", right.len());
+    assert!(right.len() >= 20, "the code has {} numbers", right.len());
     assert!(rises(&right), "{right:?}");
     assert_eq!(cases(&code), names(&right), "the enum");
     assert_eq!(definition(&specs), right, "the definition");

@@ -1,8 +1,11 @@
 //! Entries, with their stamps: what a store holds and a REPL frame carries.
 
 use crate::ring::key_position;
-use snowpulley_sys::{SP_FLAG_ACTIVE, SP_FLAG_TOMBSTONE};
+use snowpulley_sys::{SP_FLAG_ACTIVE, SP_FLAG_TOMBSTONE, SP_TIME_END};
 use std::fmt;
+
+/// The last time that is in range, in milliseconds.
+pub const TIME_MAX: u64 = SP_TIME_END - 1;
 
 /// A stamp; the order of the fields is the order of comparison.
 #[derive(Clone, Copy, Debug, PartialEq, Eq, PartialOrd, Ord)]

@@ -16,7 +16,7 @@ pub struct Answer {
 
 /// Answers one request frame. A PUT or DEL whose stamp is not above the held
 /// one is refused with `Overtaken`, whatever it writes; a REPL is offered as by
-/// `store::offer`.
+/// `store::offer`. All three are refused with `BelowLine` as an offer is.
 pub fn handle(
     store: &mut [u8],
     clock: &mut Clock,

@@ -13,6 +13,9 @@ pub const SLOTS: RangeInclusive<usize> = 1..=SP_SLOTS_MAX;
 pub const HEADER_BYTES: usize = 16;
 pub const SLOT_BYTES: usize = 596;
 
+// The header's purge line; behind it are two zeros.
+const LINE: Range<usize> = 8..14;
+
 // A slot's fields.
 const KEY_LENGTH: usize = 0;
 const FLAG: usize = 1;
@@ -43,7 +46,8 @@ pub struct Header {
     pub used: u16,
     pub slot_width: u16,
     pub first_slot: u16,
-    pub zeros: [u8; 8],
+    pub line: u64,
+    pub zeros: [u8; 2],
 }
 
 impl Header {
@@ -56,6 +60,7 @@ impl Header {
             used: field(1),
             slot_width: field(2),
             first_slot: field(3),
+            line: number(&bytes[LINE]),
             zeros: *bytes.last_chunk()?,
         })
     }

@@ -235,6 +235,15 @@ pub fn store_merge(receiver: &mut [u8], giver: &[u8]) -> u32 {
     unsafe { ffi::sp_store_merge(bytes, len, giver.as_ptr(), giver.len()) }
 }
 
+pub fn store_line(store: &[u8], line: &mut [u64]) -> u32 {
+    let (words, len) = (line.as_mut_ptr(), line.len());
+    unsafe { ffi::sp_store_line(store.as_ptr(), store.len(), words, len) }
+}
+
+pub fn store_purge(store: &mut [u8], line: u64) -> u32 {
+    unsafe { ffi::sp_store_purge(store.as_mut_ptr(), store.len(), line) }
+}
+
 pub fn handle(
     store: &mut [u8],
     clock: &mut [u64],

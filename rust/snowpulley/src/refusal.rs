@@ -74,6 +74,12 @@ refusals! {
         "a count, flag, state or ERR number out of range, an id listed twice, a tombstone with a \
          value, words that are no clock or no sound peer table, or a list of deliveries that is \
          not readable";
+    LowerLine = SP_LOWER_LINE:
+        "a purge to a line below the one that the store holds";
+    BelowLine = SP_BELOW_LINE:
+        "an entry whose time is below the store's purge line, for a key that is not held";
+    UnequalLines = SP_UNEQUAL_LINES:
+        "a merge of stores with different purge lines";
 }
 
 impl Refusal {

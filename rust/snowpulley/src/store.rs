@@ -85,7 +85,8 @@ pub fn entries(store: &[u8]) -> Result<Vec<Entry<'_>>, Refusal> {
 /// Offers one entry. Of it and the held one of its key the one that is above
 /// stays: the one with the greater stamp; at equal stamps a tombstone is above
 /// every value, and of two values the one with the greater byte where they
-/// first differ, or the longer one if it begins with the other.
+/// first differ, or the longer one if it begins with the other. An entry below
+/// the purge line is refused with `BelowLine` if its key is not held.
 pub fn offer(store: &mut [u8], entry: &Entry<'_>) -> Result<Offered, Refusal> {
     let Entry {
         key,
@@ -110,8 +111,23 @@ pub fn offer(store: &mut [u8], entry: &Entry<'_>) -> Result<Offered, Refusal> {
 }
 
 /// Offers each of the giver's entries to the receiver as `offer` does, all or
-/// none.
-pub fn merge(receiver: &mut [u8], giver: &[u8]) -> Result<(), Refusal> {
-    split(raw::store_merge(receiver, giver))?;
-    Ok(())
+/// none, but passes over those that are below the purge line and of a key that
+/// the receiver does not hold; how many it passed over. Stores with different
+/// lines are refused with `UnequalLines`.
+pub fn merge(receiver: &mut [u8], giver: &[u8]) -> Result<usize, Refusal> {
+    split(raw::store_merge(receiver, giver)).map(usize::from)
+}
+
+/// The store's purge line, 0 if it was never purged.
+pub fn line(store: &[u8]) -> Result<u64, Refusal> {
+    let mut line = [0];
+    split(raw::store_line(store, &mut line))?;
+    Ok(line[0])
+}
+
+/// Removes the tombstones whose time is below the line, and sets the store's
+/// purge line to it; how many it removed. To be done on all modules of a site,
+/// to one line, after they have merged with each other.
+pub fn purge(store: &mut [u8], line: u64) -> Result<usize, Refusal> {
+    split(raw::store_purge(store, line)).map(usize::from)
 }

@@ -53,8 +53,10 @@ fn numbers_name_refusals() {
     }
     assert_eq!(Refusal::SelfPeer.name(), "SELF");
     assert_eq!(Refusal::BadArgument.name(), "BAD_ARGUMENT");
-    assert_eq!(Refusal::from_number(0), None);
-    assert_eq!(Refusal::from_number(u16::MAX), None);
+    assert_eq!(Refusal::UnequalLines.number(), 35);
+    for unused in (18..=32).chain([0, 36, u16::MAX]) {
+        assert_eq!(Refusal::from_number(unused), None, "{unused}");
+    }
 }
 
 #[test]

@@ -256,13 +256,40 @@ fn stores() {
     assert_eq!(store::entries(&one), Ok(held));
     assert_eq!(store::entries(&store::fresh(1).unwrap()), Ok(vec![]));
     let mut two = store::fresh(2).unwrap();
-    assert_eq!(store::merge(&mut two, &one), Ok(()));
+    assert_eq!(store::merge(&mut two, &one), Ok(0));
     assert_eq!(one, two);
     two[2] = 9;
     assert!(!store::is_sound(&two));
     assert_eq!(store::entry(&two, 0), Err(Refusal::BadStore));
     assert_eq!(store::entries(&two), Err(Refusal::BadStore));
     assert_eq!(store::merge(&mut one, &two), Err(Refusal::BadStore));
+}
+
+#[test]
+fn purges() {
+    let mut one = store::fresh(2).unwrap();
+    store::offer(&mut one, &tombstone(b"a", 5)).unwrap();
+    store::offer(&mut one, &tombstone(b"b", 6)).unwrap();
+    assert_eq!(store::line(&one), Ok(0));
+    assert_eq!(store::purge(&mut one, LATE), Err(Refusal::BadTime));
+    assert_eq!(store::purge(&mut one, 6), Ok(1));
+    assert_eq!(store::line(&one), Ok(6));
+    assert_eq!(store::purge(&mut one, 5), Err(Refusal::LowerLine));
+    assert_eq!(store::purge(&mut one, 6), Ok(0));
+    assert_eq!(store::entries(&one), Ok(vec![tombstone(b"b", 6)]));
+    let below = store::offer(&mut one, &active(b"a", b"x", 5));
+    assert_eq!(below, Err(Refusal::BelowLine));
+    let mut two = store::fresh(2).unwrap();
+    for key in [b"a", b"c"] {
+        store::offer(&mut two, &active(key, b"x", 5)).unwrap();
+    }
+    let unequal = store::merge(&mut one, &two);
+    assert_eq!(unequal, Err(Refusal::UnequalLines));
+    assert_eq!(store::purge(&mut two, 6), Ok(0));
+    assert_eq!(store::merge(&mut one, &two), Ok(2));
+    assert_eq!(store::entries(&one), Ok(vec![tombstone(b"b", 6)]));
+    assert_eq!(store::line(&one[1..]), Err(Refusal::BadStore));
+    assert_eq!(store::purge(&mut one[1..], 0), Err(Refusal::BadStore));
 }
 
 /// Each content is above those before it. Whichever of a pair is held and
@@ -287,7 +314,7 @@ fn contents_decide_between_equal_stamps() {
         let highest = &stores[held.max(offered)];
         let [mut one, mut two] = [(); 2].map(|()| stores[held].clone());
         assert_eq!(store::offer(&mut one, &entries[offered]), Ok(expected));
-        assert_eq!(store::merge(&mut two, &stores[offered]), Ok(()));
+        assert_eq!(store::merge(&mut two, &stores[offered]), Ok(0));
         assert_eq!([&one, &two], [highest; 2], "{held} and {offered}");
     }
 }
@@ -326,9 +353,17 @@ fn the_layout_of_an_image() {
         used: 1,
         slot_width: 596,
         first_slot: 16,
-        zeros: [0; 8],
+        line: 0,
+        zeros: [0; 2],
     };
     assert_eq!(Header::read(&image), Some(header));
+    image[8..16].copy_from_slice(&[1, 2, 3, 4, 5, 6, 7, 8]);
+    let other = Header {
+        line: 0x0102_0304_0506,
+        zeros: [7, 8],
+        ..header
+    };
+    assert_eq!(Header::read(&image), Some(other));
     assert_eq!(Header::read(&image[..15]), None);
     let slots: Vec<_> = image::slots(&image).collect();
     assert_eq!(slots.len(), 3);
@@ -370,6 +405,12 @@ fn requests() {
     assert_eq!(clock.words(), [10, 0, 1, 0]);
     let short = handle(&mut image, &mut clock, 11, &put(b"l"), &mut reply[..599]);
     assert_eq!((short.length, short.refusal), (0, Some(Refusal::NoRoom)));
+    store::purge(&mut image, 12).unwrap();
+    let answer = handle(&mut image, &mut clock, 11, &put(b"l"), &mut reply);
+    assert_eq!(answer.refusal, Some(Refusal::BelowLine));
+    let told = frame::read(&reply[..answer.length]);
+    assert_eq!(told, Ok(Message::Err { number: 34 }));
+    assert_eq!(clock.words(), [10, 0, 1, 0]);
 }
 
 /// A PUT and a DEL are refused then, whatever they write, and a replica goes by

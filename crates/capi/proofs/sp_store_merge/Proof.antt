@@ -1,6 +1,8 @@
 use borrow.Author.Needs.{needs}
+use native.Mathlib.Omega.{arith}
 use mathlib.Core.Path.{ap, _∙_}
-use Rattle.capi.specs.Store.{storeWord}
+use Rattle.capi.specs.Store.{storeNumber, storeWord}
+use Rattle.capi.proofs.Halves.{merge-few}
 use Rattle.capi.proofs.sp_store_merge.Statement.{statement}
 use Rattle.capi.proofs.sp_store_merge.Tie as tie
 
@@ -8,7 +10,10 @@ merge-requires : tie.Need-merge-requires
 merge-requires c κs = search needs
 
 merged-requires : tie.Need-merged-requires
-merged-requires c κs = search needs
+merged-requires c κs =
+    let done = c .before .before in
+    let a = done .before .before .before .before .args in
+    omega (arith, ap storeNumber (done .merge .ensures .0), merge-few (a .receiver .now) (a .giver .now) .1)
 
 same-length : tie.Need-same-length
 same-length c = search needs

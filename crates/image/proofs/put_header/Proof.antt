@@ -75,13 +75,26 @@ part-put-be-end-5 c = search needs
 put-be-requires-5 : tie.Need-put-be-requires-5
 put-be-requires-5 c κs = search needs
 
+sub-put-be-6 : tie.Need-sub-put-be-6
+sub-put-be-6 c = search needs
+
+part-put-be-start-6 : tie.Need-part-put-be-start-6
+part-put-be-start-6 c = search needs
+
+part-put-be-end-6 : tie.Need-part-put-be-end-6
+part-put-be-end-6 c = search needs
+
+put-be-requires-6 : tie.Need-put-be-requires-6
+put-be-requires-6 c κs = search needs
+
 same-length : tie.Need-same-length
 same-length c = search needs
 
 returns-2 : tie.Need-returns-2
 unfolding headerWith header
 returns-2 c =
-    let p5 = c .before .before in
+    let p6 = c .before .before in
+    let p5 = p6 .before .before .before .before in
     let p4 = p5 .before .before .before .before in
     let p3 = p4 .before .before .before .before in
     let p2 = p3 .before .before .before .before in
@@ -94,7 +107,8 @@ returns-2 c =
     let w2 = write-number s 2 2 _ _ _ w1 0 (omega arith) (p2 .put-be2 .ensures) in
     let w3 = write-number s 4 2 _ _ _ w2 slotWidth (omega arith) (p3 .put-be3 .ensures) in
     let w4 = write-number s 6 2 _ _ _ w3 headerWidth (omega arith) (p4 .put-be4 .ensures) in
-    write-fill s 8 8 _ _ _ w4 n (p5 .put-be5 .ensures) ∙ sym (rw (eq-eqb (length s) headerWidth n))
+    let w5 = write-number s 8 6 _ _ _ w4 0 (omega arith) (p5 .put-be5 .ensures) in
+    write-fill s 14 2 _ _ _ w5 n (p6 .put-be6 .ensures) ∙ sym (rw (eq-eqb (length s) headerWidth n))
 
 pub put-header-spec : {M : Type 1} → statement M
 put-header-spec =
@@ -121,5 +135,9 @@ put-header-spec =
     part-put-be-start-5
     part-put-be-end-5
     put-be-requires-5
+    sub-put-be-6
+    part-put-be-start-6
+    part-put-be-end-6
+    put-be-requires-6
     same-length
     returns-2)

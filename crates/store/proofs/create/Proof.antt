@@ -71,8 +71,8 @@ returns-4 c =
     let a = start .args in
     let s = a .buffer .now in
     let n : length s ≡ slotStart (a .slots) = at-if3 .if3 .left in
-    let w1 = write-next (λ (w : ℕ). header (a .slots) 0) 0 headerWidth _ s _ _ (length-header _ _) (omega arith) (written-none s)
-    (at-put-header .put-header .ensures ∙ header-with (a .slots) 0 _ (length-take-le headerWidth s (omega arith))) in
+    let w1 = write-next (λ (w : ℕ). header (a .slots) 0 0) 0 headerWidth _ s _ _ (length-header _ _ _) (omega arith) (written-none s)
+    (at-put-header .put-header .ensures ∙ header-with (a .slots) 0 0 _ (length-take-le headerWidth s (omega arith))) in
     let w2 = write-next zeros headerWidth (length s - headerWidth) _ s _ _ (length-zeros _) (omega arith) w1 (at-put-be .put-be .ensures ∙ be-zeros _) in
     create-done s (a .slots) (at-if1 .if1 .left) (at-if2 .if2 .left) n _
     (written-all (headerWidth + (length s - headerWidth)) _ s _ (omega arith) w2 ∙ fresh-bytes (a .slots) (length s - headerWidth) (omega arith))

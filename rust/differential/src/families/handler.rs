@@ -2,15 +2,15 @@
 //! anything.
 
 use super::clock::any_clock;
-use super::image::{damage, empty, filled, slots};
+use super::image::{damage, empty, filled, slots, small_entry};
 use super::message::{any_frame, damaged, framed, odd_frame, repl};
 use super::reused::{again, held, tie};
-use crate::make::{any_time, pick};
+use crate::make::{any_time, pick, pool_key};
 use crate::run::{cases, Run, Tally};
 use crate::same;
 use reference::frame::Message;
 use reference::stamp::{Stamp, TIME_END};
-use reference::store::Entry;
+use reference::store::{line, purge, slot_count, used_count, Entry};
 use reference::value::TOMBSTONE;
 use support::Rng;
 
@@ -19,9 +19,10 @@ pub fn run(seed: u64, count: u64) -> Tally {
 }
 
 fn case(run: &mut Run, rng: &mut Rng) {
-    match rng.below(4) {
+    match rng.below(5) {
         0 => single(run, rng),
         1 => equal_stamps(run, rng),
+        2 => about_the_line(run, rng),
         _ => journal(run, rng),
     }
 }
@@ -84,6 +85,38 @@ fn equal_stamps(run: &mut Run, rng: &mut Rng) {
         }
     }
 }
+
+/// Requests to a purged store, with times about its line.
+fn about_the_line(run: &mut Run, rng: &mut Rng) {
+    let slots = slots(rng);
+    let mut store = filled(rng, slots);
+    // It may have a higher line.
+    let _ = purge(&mut store, 1 + rng.below(5));
+    let line = line(&store).expect("a sound store");
+    let mut state = (store, vec![], vec![]);
+    for _ in 0..30 {
+        let key = pool_key(rng);
+        let mut entry = small_entry(rng, key);
+        let now = (line + 1).saturating_sub(rng.below(4));
+        entry.stamp.phys = (line + 1).saturating_sub(rng.below(4));
+        state.1 = vec![rng.below(line + 2), rng.below(3), rng.below(3), 0];
+        state.2 = reply(rng);
+        let message = if rng.one_in(2) {
+            local(entry)
+        } else {
+            repl(entry)
+        };
+        let full = used_count(&state.0) == slot_count(&state.0);
+        let result = request(run, &mut state, now, &framed(&message));
+        if result >> 16 == 34 {
+            let kind = u32::from(framed(&message)[2]);
+            run.count("refused below the line", kind + 10 * u32::from(full));
+        }
+    }
+}
+
+/// What is counted there: the type, and 10 more where the store is full.
+pub const BELOW: [u32; 6] = [1, 3, 4, 11, 13, 14];
 
 /// A clock of the stamp's node whose send at the stamp's time gives the stamp,
 /// but for a stamp of count 0 at time 0, which no send gives.

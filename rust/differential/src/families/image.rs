@@ -4,7 +4,9 @@ use crate::make::{good_value, pick, pool_key};
 use reference::checksum::crc32c;
 use reference::key::RESERVED;
 use reference::stamp::Stamp;
-use reference::store::{create, image_length, offer, slot_count, used_count, HEADER, WIDTH};
+use reference::store::{
+    create, image_length, offer, purge, slot_count, used_count, Entry, HEADER, WIDTH,
+};
 use support::Rng;
 
 pub fn slots(rng: &mut Rng) -> usize {
@@ -30,7 +32,19 @@ pub fn small_stamp(rng: &mut Rng) -> Stamp {
     }
 }
 
-/// A sound store with some entries.
+/// An entry of a key, with a small stamp.
+pub fn small_entry(rng: &mut Rng, key: Vec<u8>) -> Entry {
+    let flag = u8::from(rng.one_in(4));
+    let value = if flag == 1 { vec![] } else { good_value(rng) };
+    Entry {
+        key,
+        value,
+        flag,
+        stamp: small_stamp(rng),
+    }
+}
+
+/// A sound store with some entries; some were purged.
 pub fn filled(rng: &mut Rng, slots: usize) -> Vec<u8> {
     let mut image = empty(slots);
     for _ in 0..rng.index(2 * slots + 1) {
@@ -39,10 +53,18 @@ pub fn filled(rng: &mut Rng, slots: usize) -> Vec<u8> {
         } else {
             pool_key(rng)
         };
-        let flag = u8::from(rng.one_in(4));
-        let value = if flag == 1 { vec![] } else { good_value(rng) };
+        let entry = small_entry(rng, key);
         // A full store takes no more; the rest are not needed.
-        let _ = offer(&mut image, &key, &value, flag, small_stamp(rng));
+        let _ = offer(
+            &mut image,
+            &entry.key,
+            &entry.value,
+            entry.flag,
+            entry.stamp,
+        );
+    }
+    if rng.one_in(4) {
+        purge(&mut image, rng.below(5)).expect("a line in range");
     }
     image
 }

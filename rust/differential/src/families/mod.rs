@@ -9,6 +9,7 @@ pub mod image;
 pub mod list;
 pub mod message;
 pub mod peers;
+pub mod purge;
 pub mod reused;
 pub mod ring;
 pub mod store;

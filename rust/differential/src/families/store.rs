@@ -1,14 +1,12 @@
-//! Histories of offers, merges, lookups and listings over several stores, and
-//! calls on damaged images.
+//! Histories of offers, merges, purges, lookups and listings over several
+//! stores, and calls on damaged images.
 
-use super::image::{self, damage, empty, filled, slots, small_stamp};
+use super::image::{self, damage, empty, filled, slots, small_entry};
+use super::purge;
 use super::reused::{again, held, tie};
-use crate::make::{
-    any_key, any_time, any_value, flag, good_value, logical, near, pick, pool_key, words,
-};
+use crate::make::{any_key, any_time, any_value, flag, logical, near, pick, pool_key, words};
 use crate::run::{cases, Run, Tally};
 use crate::same;
-use reference::stamp::Stamp;
 use reference::store::{entries, image_length, Entry};
 use support::Rng;
 
@@ -20,6 +18,7 @@ fn case(run: &mut Run, rng: &mut Rng) {
     match rng.below(40) {
         0 => every_byte(run, rng),
         1..=15 => damaged(run, rng),
+        16..=25 => purge::history(run, rng),
         _ => history(run, rng),
     }
 }
@@ -47,16 +46,26 @@ fn create(run: &mut Run, rng: &mut Rng) -> Vec<u8> {
 /// An entry that is right, mostly with a small stamp.
 fn offer_good(run: &mut Run, rng: &mut Rng, store: &mut Vec<u8>) {
     let key = pool_key(rng);
-    let flag = u32::from(rng.one_in(4));
-    let value = if flag == 1 { vec![] } else { good_value(rng) };
-    let Stamp {
-        phys,
-        logical,
-        node,
-    } = small_stamp(rng);
+    let entry = small_entry(rng, key);
+    offer_entry(run, store, &entry);
+}
+
+pub fn offer_entry(run: &mut Run, store: &mut Vec<u8>, entry: &Entry) -> u32 {
+    let Entry {
+        key,
+        value,
+        flag,
+        stamp,
+    } = entry;
     same!(run, store_offer, store, |s| (
-        s, &key, &value, flag, phys, logical, node
-    ));
+        s,
+        key,
+        value,
+        u32::from(*flag),
+        stamp.phys,
+        stamp.logical,
+        stamp.node
+    ))
 }
 
 /// An entry with the key and the stamp of one that a store holds.
@@ -67,21 +76,7 @@ fn offer_again(run: &mut Run, rng: &mut Rng, store: &mut Vec<u8>, other: &[u8]) 
     let entry = again(rng, &known);
     let there = entries(store).unwrap_or_default();
     count_tie(run, "offer at an equal stamp", &there, &entry);
-    let Entry {
-        key,
-        value,
-        flag,
-        stamp,
-    } = &entry;
-    same!(run, store_offer, store, |s| (
-        s,
-        key,
-        value,
-        u32::from(*flag),
-        stamp.phys,
-        stamp.logical,
-        stamp.node
-    ));
+    offer_entry(run, store, &entry);
 }
 
 /// Counts how an entry compares with the one there that has its key and stamp,
@@ -134,8 +129,7 @@ fn history(run: &mut Run, rng: &mut Rng) {
         match rng.below(14) {
             0 => offer_any(run, rng, &mut stores[at]),
             1 | 2 => {
-                let receiver = std::mem::take(&mut stores[at]);
-                stores[at] = merge(run, receiver, other);
+                merge(run, &mut stores[at], &other);
             }
             3 | 4 => lookup(run, rng, &stores[at]),
             5 | 6 => entry(run, rng, &stores[at]),
@@ -148,16 +142,17 @@ fn history(run: &mut Run, rng: &mut Rng) {
     }
 }
 
-fn merge(run: &mut Run, receiver: Vec<u8>, giver: Vec<u8>) -> Vec<u8> {
-    let there = entries(&receiver).unwrap_or_default();
-    let mut lent = (receiver, giver);
+pub fn merge(run: &mut Run, receiver: &mut Vec<u8>, giver: &[u8]) -> u32 {
+    let there = entries(receiver).unwrap_or_default();
+    let mut lent = (std::mem::take(receiver), giver.to_vec());
     let result = same!(run, store_merge, &mut lent, |l| (&mut l.0, &l.1));
-    if result == 0 {
-        for entry in entries(&lent.1).unwrap_or_default() {
+    *receiver = lent.0;
+    if result >> 16 == 0 {
+        for entry in entries(giver).unwrap_or_default() {
             count_tie(run, "merge at an equal stamp", &there, &entry);
         }
     }
-    lent.0
+    result
 }
 
 fn damaged(run: &mut Run, rng: &mut Rng) {
@@ -173,11 +168,14 @@ fn damaged(run: &mut Run, rng: &mut Rng) {
         lookup(run, rng, &store);
         entry(run, rng, &store);
     }
-    merge(run, whole.clone(), store.clone());
-    merge(run, store.clone(), store.clone());
-    merge(run, store.clone(), whole);
+    merge(run, &mut whole.clone(), &store);
+    merge(run, &mut store.clone(), &store);
+    merge(run, &mut store.clone(), &whole);
     offer_good(run, rng, &mut store);
     offer_any(run, rng, &mut store);
+    purge::line(run, rng, &store);
+    let line = purge::line_about(rng, &store);
+    purge::purge(run, &mut store, line);
     let mut short = store[..rng.index(20).min(store.len())].to_vec();
     same!(run, store_is_sound, &mut short, |s| (s));
 }

@@ -3,6 +3,7 @@
 mod audit;
 mod demo;
 mod owners;
+mod purge;
 mod refusal;
 mod replay;
 mod ring;
@@ -14,6 +15,7 @@ use crate::cli::Command;
 pub const ALL: &[Command] = &[
     demo::COMMAND,
     show::COMMAND,
+    purge::COMMAND,
     replay::COMMAND,
     audit::COMMAND,
     owners::COMMAND,

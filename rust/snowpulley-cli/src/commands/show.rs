@@ -7,6 +7,7 @@ use crate::files;
 use crate::text::bytes::{shown, SHORT};
 use crate::text::entries::{self, Row, COLUMNS};
 use crate::text::table::{Side, Table};
+use crate::text::time::line_shown;
 use snowpulley::image::{self, Header, Slot};
 use snowpulley::{store, Entry};
 use std::fmt::Write;
@@ -16,8 +17,9 @@ pub const COMMAND: Command = Command {
     usage: "STORE [--full]",
     summary: "show a store image: its header, entries and free slots",
     help: &["\
-Shows the header, a row for each used slot and the free slots. STORE is a file,
-or - for standard input. Long keys and values are cut unless --full is given.
+Shows the header with the purge line, a row for each used slot and the free
+slots. STORE is a file, or - for standard input. Long keys and values are cut
+unless --full is given.
 Bytes that are not printable ASCII are in hexadecimal after an x.
 
 For an image that is not sound, a negative answer, it names the first fault and
@@ -63,8 +65,13 @@ fn header(image: &[u8]) -> String {
     match Header::read(image) {
         None => "no header\n".to_string(),
         Some(header) => format!(
-            "header: slots {}, used {}, slot width {}, first slot at byte {}\n",
-            header.slots, header.used, header.slot_width, header.first_slot
+            "header: slots {}, used {}, slot width {}, first slot at byte {}\n\
+             purge line: {}\n",
+            header.slots,
+            header.used,
+            header.slot_width,
+            header.first_slot,
+            line_shown(header.line)
         ),
     }
 }

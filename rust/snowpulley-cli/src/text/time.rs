@@ -12,6 +12,14 @@ pub fn utc(time: u64) -> String {
     format!("{year:04}-{month:02}-{day:02} {clock}.{rest:03}")
 }
 
+/// A store's purge line.
+pub fn line_shown(line: u64) -> String {
+    match line {
+        0 => "0, never purged".to_string(),
+        line => format!("{line}, {} UTC", utc(line)),
+    }
+}
+
 /// The time of day alone, as `06:40:00`, in UTC.
 pub fn time_of_day(time: u64) -> String {
     let (hour, minute) = (time % DAY / HOUR, time % HOUR / MINUTE);
@@ -50,6 +58,8 @@ mod tests {
         assert_eq!(utc(4_107_542_399_999), "2100-02-28 23:59:59.999");
         assert_eq!(utc(4_107_542_400_000), "2100-03-01 00:00:00.000");
         assert_eq!(utc((1 << 48) - 1), "10889-08-02 05:31:50.655");
+        assert_eq!(line_shown(0), "0, never purged");
+        assert_eq!(line_shown(1), "1, 1970-01-01 00:00:00.001 UTC");
     }
 
     /// Each day is the next one after the day before.

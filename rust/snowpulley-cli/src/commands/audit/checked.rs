@@ -88,8 +88,9 @@ pub const LIMITS: [&str; 6] = [
      in a merged store (all of another module's at once), are not in the list. If one of them has \
      a greater stamp, or the same stamp and higher contents, the module holds that one.",
     "The list may lack deliveries that came, or have some that did not come.",
-    "The module may have refused a delivery of the list, as with a full store or with a clock \
-     that can count no further.",
+    "The module may have refused a delivery of the list, as with a full store, with a clock that \
+     can count no further, or below its purge line. A purge may have removed a tombstone that is \
+     in force here.",
     "A module's clock may have been wrong. The stamps are taken as they are.",
     "A reused stamp is pointed out only where the delivery in force has it: deliveries that lost \
      by their stamps are not compared with each other.",

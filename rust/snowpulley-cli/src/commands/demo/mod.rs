@@ -1,5 +1,6 @@
 //! `snowpulley demo`: what went wrong on the site, on the proved library.
 
+mod purge;
 mod reuse;
 mod tale;
 
@@ -22,9 +23,10 @@ pub const COMMAND: Command = Command {
     help: &["\
 Two modules agree on a correction. One sleeps while the other is mended, wakes
 and offers the old one. Then a module that was restored from a spare card reuses
-a stamp. Each line is a call of the proved library and names the theorem, of
-docs/AUDIT.md, or the definition that it shows. A line that does not hold is
-marked WRONG, and is a negative answer.
+a stamp. At last the mark of a deletion is cleared, and a third module, which
+slept meanwhile, offers what was deleted. Each line is a call of the proved
+library and names the theorem, of docs/AUDIT.md, or the definition that it
+shows. A line that does not hold is marked WRONG, and is a negative answer.
 "],
     run,
 };
@@ -55,6 +57,7 @@ fn run(args: Args) -> Outcome {
     demo.merge()?;
     demo.show()?;
     demo.reuse()?;
+    demo.purge()?;
     demo.name_owners()?;
     let (text, holds) = demo.tale.finish();
     Ok(Report {
@@ -66,6 +69,8 @@ fn run(args: Args) -> Outcome {
 struct Demo {
     /// Module 1 is mended; module 2 sleeps meanwhile.
     modules: [Module; 2],
+    /// The store of module 3, which sleeps from the beginning to the end.
+    asleep: Vec<u8>,
     tale: Tale,
 }
 
@@ -80,6 +85,7 @@ impl Demo {
     fn fresh() -> Result<Demo, Refusal> {
         Ok(Demo {
             modules: [Module::fresh(1, SLOTS)?, Module::fresh(2, SLOTS)?],
+            asleep: store::fresh(SLOTS)?,
             tale: Tale::default(),
         })
     }
@@ -121,6 +127,8 @@ impl Demo {
         }
         self.offer_all(AGREED, Second, First, Offered::Stored)?;
         self.compare("history: converge");
+        let agreed = self.store(First).clone();
+        store::merge(&mut self.asleep, &agreed)?;
         Ok(())
     }
 
@@ -190,15 +198,17 @@ impl Demo {
         let same = *self.store(First) == before;
         let said = "no key is lost, no stamp lowered: every byte is as it was";
         self.check("history: monotone", WOKE, First, said, same);
-        self.look_up(First, CORRECTION, Found::Value(MENDED), "history: looked")
+        let mended = Found::Value(MENDED);
+        self.look_up("history: looked", WOKE, First, CORRECTION, mended)
     }
 
     fn look_up(
         &mut self,
+        shows: &str,
+        now: u64,
         which: Which,
         key: &[u8],
         expected: Found<'_>,
-        shows: &str,
     ) -> Result<(), Refusal> {
         let found = store::lookup(self.store(which), key)?;
         let (holds, key) = (found == expected, shown(key, SHORT));
@@ -207,13 +217,8 @@ impl Demo {
             Found::Deleted => "DELETED".to_string(),
             Found::Never => "NEVER".to_string(),
         };
-        self.check(
-            shows,
-            WOKE,
-            which,
-            &format!("looks up {key}: {found}"),
-            holds,
-        );
+        let said = format!("looks up {key}: {found}");
+        self.check(shows, now, which, &said, holds);
         Ok(())
     }
 
@@ -222,15 +227,16 @@ impl Demo {
         let givers = [self.store(Second).clone(), self.store(First).clone()];
         for (which, giver) in [First, Second].into_iter().zip(givers) {
             let taken = store::merge(self.store(which), &giver);
-            let told = taken.map_or_else(Refusal::name, |()| "nothing is refused");
+            let told = taken.map_or_else(Refusal::name, |_| "nothing is refused");
             let said = format!("merges the other's store: {told}");
-            self.check("history: accepted", WOKE, which, &said, taken.is_ok());
+            self.check("history: accepted", WOKE, which, &said, taken == Ok(0));
         }
         self.compare("history: converge, bytes");
         let mended = Found::Value(MENDED);
-        self.look_up(Second, CORRECTION, mended, "history: looked")?;
-        self.look_up(Second, LOAD, Found::Deleted, "history: looked")?;
-        self.look_up(Second, b"comp/scale-9", Found::Never, "history: unseen")
+        self.look_up("history: looked", WOKE, Second, CORRECTION, mended)?;
+        self.look_up("history: looked", WOKE, Second, LOAD, Found::Deleted)?;
+        let (never, unseen) = (Found::Never, "history: unseen");
+        self.look_up(unseen, WOKE, Second, b"comp/scale-9", never)
     }
 
     fn show(&mut self) -> Result<(), Refusal> {
