@@ -340,7 +340,8 @@ sp_result sp_write_err(uint32_t number, uint8_t *out, size_t out_len);
  * or the longer one if it begins with the other. */
 #define SP_STORE_BYTES(slots) (16 + 596 * (size_t)(slots))
 
-/* Makes the buffer a store that holds nothing; its purge line is 0.
+/* Makes the buffer a store that holds nothing; its purge line is 0. On a site that was purged a new
+ * module's store is no such one, but a copy of a neighbour's bytes: see sp_store_purge.
  *   SP_BAD_ARGUMENT     `slots` is not from 1 to 100
  *   SP_NO_ROOM          the buffer has not exactly SP_STORE_BYTES(slots) bytes */
 sp_result sp_store_create(uint8_t *store, size_t store_len, size_t slots);
@@ -413,10 +414,17 @@ sp_result sp_store_line(const uint8_t *store, size_t store_len, uint64_t *line, 
  * a line in the past, since a write below it is refused where its key is not held.
  *
  * A module that slept through a purge may still hold what was deleted elsewhere. If the line rose,
- * merges with it are refused. Do not purge it by itself, since it would keep such values. Offer
+ * merges with it are refused; if not, only the number that another module passes over when it
+ * merges this one's store tells. Do not purge it by itself, since it would keep such values. Offer
  * all its entries to a neighbour and look at what that refuses with SP_BELOW_LINE: such an entry
  * was deleted, or never came, and is lost unless it is written anew. Then make its store anew, as
- * a copy of the neighbour's bytes.
+ * a copy of the neighbour's bytes. Do the same with a store from a copy that is older than the
+ * purge. A new store is made as such a copy too: created and purged to the line, it would pass
+ * over what is older than the line and still in force.
+ *
+ * No checksum covers the line, and a store with any line is sound: where a line may be damaged,
+ * compare it with that of other modules. A library from before this function finds a store with a
+ * line unsound.
  *   SP_BAD_STORE        the store is not sound
  *   SP_BAD_TIME         `line` is out of range
  *   SP_LOWER_LINE       `line` is below the store's purge line; it may be equal to it */
@@ -456,8 +464,8 @@ sp_result sp_handle(uint8_t *store, size_t store_len, uint64_t *clock, size_t cl
  *
  * Of what a module is sent, keep the REPL frames that sp_handle answered with OK. A module's own
  * PUT and DEL, and what came by sp_store_offer or sp_store_merge, are in no such list: the report
- * is on the list alone. The module may hold an entry above the winner, or, after a purge, none
- * where the winner is a tombstone. */
+ * is on the list alone. The module may hold an entry above the winner, or, after a purge, none: a
+ * tombstone, in the list or not, may have been removed. */
 
 /* The answer is the number of deliveries in the list, 0 to SP_DELIVERIES_MAX.
  *   SP_BAD_ARGUMENT     the list is not readable */

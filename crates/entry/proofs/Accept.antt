@@ -12,13 +12,6 @@ use Rattle.wire.proofs.Tests.{or-false}
 use Rattle.entry.specs.Key.{reserved, badKey}
 use Rattle.entry.specs.Entry.{Entry, badTime, badFlag, refusalOf}
 
--- of a run of tests, the first that is passed
-pub or-first : (a b : Bool) → a ≡ true → (a || b) ≡ true
-or-first a b e = rw e
-
-pub or-next : (a b : Bool) → a ≡ false → (a || b) ≡ b
-or-next a b e = rw e
-
 module _ (k : List ℕ) where
   pub key-empty : length k ≡ 0 → badKey k ≡ true
   unfolding badKey

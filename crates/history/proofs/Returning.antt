@@ -202,11 +202,13 @@ nothing-comes-back s line t r writes g at len e =
     let h = w .entry in
     let m = find-some (t .key) (entriesOf u) (w .found) in
     let ok = accepted h (accepts-held u (k .is-sound) h (m .0)) in
+    let b = stamp-order-by-field (t .stamp) (h .stamp) .1 (inl (k .above h (w .found))) in
     record {
       entry = h;
       held = m .0;
       same-key = sym (m .1);
       active = omega (arith, ok .flag, eqb-false (h .flag) 1 (w .active));
       is-value = value-stands u (t .key) at len e .1 ∙ w .part;
-      not-below = stampBelow-asym (t .stamp) (h .stamp) (stamp-order-by-field (t .stamp) (h .stamp) .1 (inl (k .above h (w .found))));
+      not-below = stampBelow-asym (t .stamp) (h .stamp) b;
+      above = b;
     }

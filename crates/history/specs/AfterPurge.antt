@@ -110,7 +110,7 @@ EveryHistoryFrom = (s : List ℕ) (n : ℕ) (events : List Event) → sound s �
 abbrev pub purgedStart : List ℕ → ℕ → Start
 purgedStart s L = record { slots = slotsOf s; line = L; held = remaining L (entriesOf s) }
 
--- and so for stores that are equal after an accepted purge to L, whatever each was before (R261)
+-- and so for stores that are equal after a purge to L, s being any of them before it (R261)
 abbrev pub EveryHistoryAfterPurge : Type 0
 EveryHistoryAfterPurge = (s : List ℕ) (L n : ℕ) (events : List Event) → isRefused (purgeAnswer s L) ≡ false → Given n events
     → (startOf (afterPurge s L) ≡ purgedStart s L) × HistoryFrom (afterPurge s L) n events

@@ -52,7 +52,8 @@ pub record Removed (s : List ℕ) (line : ℕ) (t : Entry) : Type 0 where
   pub gone : cleared line t ≡ true
 
 -- a value that a lookup of a key gives stands in an active held entry of the key, whose stamp is not
--- below that of t (R263)
+-- below that of t, nor that of t again: one with a stamp that was reused does not come back either
+-- (R263)
 pub record NotBelow (s : List ℕ) (t : Entry) (at len : ℕ) : Type 0 where
   pub entry : Entry
   pub held : entry ∈ entriesOf s
@@ -60,6 +61,7 @@ pub record NotBelow (s : List ℕ) (t : Entry) (at len : ℕ) : Type 0 where
   pub active : entry .flag ≡ 0
   pub is-value : field at len s ≡ entry .value
   pub not-below : stampBelow (entry .stamp) (t .stamp) ≡ false
+  pub above : stampBelow (t .stamp) (entry .stamp) ≡ true
 
 -- for every store, purge, removed tombstone and later writes (R263)
 abbrev pub NothingComesBack : Type 0

@@ -1,2 +1,2 @@
-// The delivery history: what every list of offers and merges leaves in the stores. Definitions and
-// their proof alone, no function.
+// The delivery history: what every list of offers, merges and requests leaves in the stores, and
+// what never comes back after a purge. Definitions and their proofs alone, no function.

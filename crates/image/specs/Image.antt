@@ -73,8 +73,8 @@ slotsOf s = num (field slotsAt 2 s)
 unfoldable pub usedOf : List ℕ → ℕ  -- (R103, R110)
 usedOf s = num (field usedAt 2 s)
 
--- the purge line: tombstones with a phys below it may have been removed; the field's term is the low
--- watermark of tombstone collection (R257)
+-- the purge line: tombstones with a phys below it may have been removed; other stores call it the
+-- low watermark of tombstone collection (R257)
 unfoldable pub lineOf : List ℕ → ℕ
 lineOf s = num (field lineAt 6 s)
 

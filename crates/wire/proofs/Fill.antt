@@ -48,9 +48,6 @@ padded-exact s =
     let e : length s - length s ≡ 0 = omega arith in
     padded-fits (length s) s (omega arith) ∙ ap (λ (n : ℕ). s ++ zeros n) e ∙ append-nil s
 
-pub padded-nil : (w : ℕ) → padded w [] ≡ zeros w
-padded-nil w = let e : w - 0 ≡ w = omega arith in padded-fits w [] (omega arith) ∙ ap zeros e
-
 pub take-padded : (w : ℕ) (s : List ℕ) → length s ≤ w → take (length s) (padded w s) ≡ s
 take-padded w s h = ap (take (length s)) (padded-fits w s h) ∙ take-append-seam s (zeros (w - length s))
 

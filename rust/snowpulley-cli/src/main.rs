@@ -28,7 +28,8 @@ fn main() -> ExitCode {
     match cli::run(std::env::args_os().skip(1).collect()) {
         Ok(report) => match print(&report.text) {
             Ok(()) => report.status(),
-            Err(error) => told(&format!("standard output: {error}")),
+            // What the command wrote to files stands there.
+            Err(error) => told(&format!("done, but the report cannot be printed: {error}")),
         },
         Err(Failure { message }) => told(&message),
     }

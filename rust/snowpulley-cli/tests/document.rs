@@ -1,8 +1,9 @@
-//! The example in docs/AUDIT.md, run.
+//! The examples in docs/AUDIT.md, run.
 
 mod common;
 
-use common::{here, run, temporary};
+use common::{file, here, run, store_of, temporary};
+use std::fs;
 use std::path::Path;
 
 /// What stands in the first code block of a language.
@@ -21,13 +22,17 @@ fn path(root: &Path, word: &str) -> String {
     path.to_str().unwrap().to_string()
 }
 
+/// What follows a heading.
+fn section(heading: &str) -> String {
+    let document = fs::read_to_string(here().join("../../docs/AUDIT.md")).unwrap();
+    let (_, section) = document.split_once(&format!("\n### {heading}\n")).unwrap();
+    section.to_string()
+}
+
 #[test]
 fn the_example_says_what_the_tool_says() {
     let root = here().join("../..");
-    let document = std::fs::read_to_string(root.join("docs/AUDIT.md")).unwrap();
-    let (_, section) = document
-        .split_once("\n### The report on one key\n")
-        .unwrap();
+    let section = &section("The report on one key");
     let runs = block(section, "sh").lines().map(|line| {
         let words = line
             .strip_prefix("rust/target/release/snowpulley ")
@@ -43,4 +48,42 @@ fn the_example_says_what_the_tool_says() {
     assert!(said.starts_with(example), "{said}");
     assert!(example.contains("  WON\n"));
     assert!(temporary("report.html").exists());
+}
+
+/// Two modules whose stores differ are purged as the document says, and are
+/// equal then.
+#[test]
+fn a_site_clears_its_deletions() {
+    for (name, key, phys) in [
+        ("one.store", b"comp/scale-3", 1),
+        ("two.store", b"comp/scale-4", 2),
+    ] {
+        let entries = [
+            (&b"test-load"[..], &b""[..], 1, phys),
+            (key, b"+1", 0, phys),
+        ];
+        file(name, &store_of(4, &entries));
+    }
+    let read = |name: &str| fs::read(temporary(name)).unwrap();
+    let section = section("How a site clears them");
+    for line in block(&section, "sh").lines() {
+        let command = line.split('#').next().unwrap();
+        let words: Vec<&str> = command.split_whitespace().collect();
+        match words[..] {
+            ["cmp", one, two] => assert_eq!(read(one), read(two)),
+            ["snowpulley", ref words @ ..] => {
+                let words = words.iter().map(|word| match word.ends_with(".store") {
+                    true => temporary(word).into_os_string(),
+                    false => word.into(),
+                });
+                let run = run(&words.collect::<Vec<_>>());
+                assert_eq!(run.status, 0, "{run:?}");
+                let purges = command.contains(" purge ");
+                assert_eq!(purges, run.out.contains("tombstones removed: 1"));
+            }
+            _ => panic!("what is to be done with this line? {line}"),
+        }
+    }
+    // Both values are there, and no tombstone.
+    assert_eq!(read("one.store")[2..4], [0, 2]);
 }

@@ -16,6 +16,7 @@ fn files_that_cannot_be_used_are_named() {
         &["show", name][..],
         &["replay", name],
         &["purge", name, "1"],
+        &["offer", name, name],
     ] {
         let (run, command) = (run(words), words[0]);
         assert_eq!((run.status, run.out.as_str()), (2, ""));
@@ -136,4 +137,5 @@ fn a_dash_is_no_output() {
     }
     run(&["ring", "--ids", "1", "--svg=-"]).fails(&format!("ring: --svg {told}"));
     run(&["purge", "-", "1", "--output=-"]).fails(&format!("purge: --output {told}"));
+    run(&["offer", "-", "b", "--output=-"]).fails(&format!("offer: --output {told}"));
 }

@@ -2,11 +2,10 @@
 
 mod common;
 
-use common::{file, run, run_with, temporary, Run};
-use reference::stamp::Stamp;
-use reference::store::{create, image_length, offer, purge};
+use common::{file, run, run_with, store_of, temporary, tool, Given, Run};
+use reference::store::purge;
 use std::fs::{self, Permissions};
-use std::os::unix::fs::{symlink, PermissionsExt};
+use std::os::unix::fs::{chown, symlink, MetadataExt, PermissionsExt};
 use std::path::{Path, PathBuf};
 
 /// 2025-01-14 06:40:00 UTC.
@@ -14,23 +13,12 @@ const MORNING: u64 = 1_736_836_800_000;
 
 /// An active entry and two tombstones, of which one is an hour later.
 fn image() -> Vec<u8> {
-    let mut image = vec![0; image_length(4)];
-    create(&mut image, 4).unwrap();
-    let entries: [(&[u8], u8, u64); 3] = [
-        (b"comp/scale-3", 0, MORNING),
-        (b"gone", 1, MORNING),
-        (b"test-load", 1, MORNING + 3_600_000),
+    let entries: [Given<'_>; 3] = [
+        (b"comp/scale-3", b"", 0, MORNING),
+        (b"gone", b"", 1, MORNING),
+        (b"test-load", b"", 1, MORNING + 3_600_000),
     ];
-    for (key, flag, phys) in entries {
-        let (logical, node) = (0, 1);
-        let stamp = Stamp {
-            phys,
-            logical,
-            node,
-        };
-        offer(&mut image, key, b"", flag, stamp).unwrap();
-    }
-    image
+    store_of(4, &entries)
 }
 
 fn purged(line: u64) -> Vec<u8> {
@@ -93,6 +81,55 @@ fn another_file_is_written() {
     assert_eq!((piped.status, piped.out), (0, told.out));
 }
 
+/// A line may be given as a date, and one in the future only on purpose.
+#[test]
+fn lines_are_times() {
+    let path = file("purge-dates", &image());
+    let words = |line| ["purge", path.to_str().unwrap(), line, "--output"];
+    let output = temporary("purge-dated");
+    let purge_to =
+        |line, more: &[&str]| run(&[&words(line)[..], &[output.to_str().unwrap()], more].concat());
+    for (line, time) in [
+        ("2025-01-14", MORNING - 24_000_000),
+        ("2025-01-14T06:41", MORNING + 60_000),
+        ("0x19463aee400", 0x19463aee400),
+    ] {
+        assert_eq!(purge_to(line, &[]).status, 0);
+        assert_eq!(fs::read(&output).unwrap(), purged(time));
+    }
+    let far = "281474976710655";
+    assert_eq!(purge_to(far, &[]).status, 2);
+    assert_eq!(purge_to(far, &["--future"]).status, 0);
+    assert_eq!(fs::read(&output).unwrap(), purged((1 << 48) - 1));
+}
+
+/// The report is lost, the store is not: the message says so.
+#[test]
+fn a_report_that_cannot_be_printed() {
+    let path = file("purge-unprinted", &image());
+    let mut command = tool(&["purge", path.to_str().unwrap(), "1"]);
+    let full = fs::File::options().write(true).open("/dev/full").unwrap();
+    let ended = command.stdout(full).output().unwrap();
+    let err = String::from_utf8(ended.stderr).unwrap();
+    assert_eq!(ended.status.code(), Some(2));
+    assert!(err.starts_with("snowpulley: done, but the report cannot be printed: "));
+    assert_eq!(fs::read(&path).unwrap(), purged(1));
+}
+
+/// Who may do anything, as root, can give a file away; the others are refused
+/// what is not theirs anyway.
+#[test]
+fn the_owner_is_kept() {
+    let path = file("purge-owned", &image());
+    if chown(&path, Some(65_534), Some(65_534)).is_err() {
+        return;
+    }
+    assert_eq!(purge_file(&path, 1).status, 0);
+    let metadata = fs::metadata(&path).unwrap();
+    assert_eq!((metadata.uid(), metadata.gid()), (65_534, 65_534));
+    assert_eq!(fs::read(&path).unwrap(), purged(1));
+}
+
 /// The link stays, and leads to the purged store.
 #[test]
 fn a_link_leads_to_the_store() {
@@ -134,7 +171,7 @@ fn a_store_that_cannot_be_replaced() {
     fs::write(&path, image()).unwrap();
     let run = purge_file(&path, 1);
     assert_eq!((run.status, run.out.as_str()), (2, ""));
-    let told = format!("snowpulley: purge: {path:?}: File name too long");
+    let told = format!("snowpulley: purge: {path:?}: no file can be made beside it: File name too");
     assert!(run.err.starts_with(&told), "{run:?}");
     assert_eq!(fs::read(&path).unwrap(), image());
     assert_eq!(names(&folder).len(), 1);

@@ -4,8 +4,8 @@ mod common;
 
 use common::run;
 
-const COMMANDS: [&str; 8] = [
-    "demo", "show", "purge", "replay", "audit", "owners", "ring", "refusal",
+const COMMANDS: [&str; 9] = [
+    "demo", "show", "purge", "offer", "replay", "audit", "owners", "ring", "refusal",
 ];
 
 #[test]
@@ -31,6 +31,7 @@ fn every_command_has_help() {
     run(&["ring", "--help"]).says(0, "help-ring.txt");
     run(&["audit", "--help"]).says(0, "help-audit.txt");
     run(&["purge", "--help"]).says(0, "help-purge.txt");
+    run(&["offer", "--help"]).says(0, "help-offer.txt");
     run(&["replay", "--help"]).says(0, "help-replay.txt");
 }
 
@@ -49,10 +50,19 @@ fn bad_usage_is_told() {
     run(&["purge"]).fails("purge: STORE is missing");
     run(&["purge", "a"]).fails("purge: LINE is missing");
     run(&["purge", "-", "1"]).fails("purge: standard input needs --output FILE");
-    let range = "is no number from 0 to 281474976710655";
-    run(&["purge", "a", "281474976710656"])
-        .fails(&format!("purge: LINE: '281474976710656' {range}"));
-    run(&["purge", "a", "x"]).fails(&format!("purge: LINE: 'x' {range}"));
+    for word in ["281474976710656", "x", "", "2025-02-29", "2025-01-14 06:40"] {
+        let told = "is no date, as 2025-01-14 or 2025-01-14T06:40, and no number of milliseconds \
+                    from 0 to 281474976710655";
+        run(&["purge", "a", word]).fails(&format!("purge: LINE: '{word}' {told}"));
+    }
+    let told = "is later than this computer's time; if that is right, give --future";
+    run(&["purge", "a", "17368368000000"])
+        .fails(&format!("purge: LINE: 2520-05-19 18:40:00.000 UTC {told}"));
+    run(&["offer"]).fails("offer: GIVER is missing");
+    run(&["offer", "a"]).fails("offer: RECEIVER is missing");
+    run(&["offer", "a", "-"]).fails("offer: standard input needs --output FILE");
+    let both = ["offer", "-", "-", "--output", "b"];
+    run(&both).fails("offer: GIVER and RECEIVER are both standard input");
     run(&["replay", "--store"]).fails("replay: --store needs a value");
     run(&["replay", "-", "--key", "k"]).fails("replay: --key needs --deliveries");
     run(&["replay", "-", "--hex"]).fails("replay: --hex needs --key");

@@ -1,8 +1,8 @@
 /* Modules of a site: settings are written on module 1, the owners of one are named, the entries
  * are listed and sent to module 2, its store is merged into a spare one, and of what was sent to it
  * a report says which delivery of a key is in force. Then module 1 gives a stamp twice, and modules
- * 2 and 3 still come to hold the same. At last a deletion is cleared, and what module 4, which
- * slept, holds of it is refused. C99, and C++11. */
+ * 2 and 3 still come to hold the same. At last a deletion is cleared; what module 4, which slept,
+ * holds of it is refused, and its store is made anew. C99, and C++11. */
 #include <stdio.h>
 #include <string.h>
 
@@ -278,15 +278,28 @@ static void purge(module *m, uint64_t line) {
            (unsigned long long)before, (unsigned long long)now, SP_ANSWER(r));
 }
 
-/* Modules 2 and 3 hold the same, and are purged to one line: the test load's slot is free again.
- * Its value, which module 4 still has, is older than the line. */
+static void merge(module *receiver, const module *giver) {
+    sp_result r = sp_store_merge(receiver->store, sizeof receiver->store, giver->store,
+                                 sizeof giver->store);
+    if (!refused("sp_store_merge", r)) {
+        printf("module %u merges the store of module %u: passed over: %u\n", receiver->id,
+               giver->id, SP_ANSWER(r));
+    }
+}
+
+/* Modules 1 to 3 hold the same once module 1 has merged, and are purged to one line: the test
+ * load's slot is free again. Its value, which module 4 still has, is older than the line. Module 4
+ * offers what it holds, and then its store is made anew, as a copy. */
 static void clear_a_deletion(void) {
+    merge(&one, &two);
+    purge(&one, MORNING + 20);
     purge(&two, MORNING + 20);
     purge(&three, MORNING + 20);
+    merge(&two, &four);
     send_all(&four, &two, MORNING + 21);
-    refused("sp_store_merge", sp_store_merge(two.store, sizeof two.store, four.store,
-                                             sizeof four.store));
     get(&two, MORNING + 22, "test-load");
+    memcpy(four.store, two.store, sizeof four.store);
+    merge(&two, &four);
 }
 
 int main(void) {
@@ -328,5 +341,6 @@ int main(void) {
 
     give_a_stamp_twice();
     clear_a_deletion();
-    return memcmp(two.store, three.store, sizeof two.store) != 0;
+    return memcmp(one.store, two.store, sizeof two.store) != 0 ||
+           memcmp(two.store, three.store, sizeof two.store) != 0;
 }

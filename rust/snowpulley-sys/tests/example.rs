@@ -55,12 +55,15 @@ module 3, report on comp/scale-3: delivery 2 is in force
   delivery 1: another key
   delivery 2: won
   delivery 3: another key
+module 1 merges the store of module 2: passed over: 0
+module 1, purge line from 0 to 1736836800020: tombstones removed: 1
 module 2, purge line from 0 to 1736836800020: tombstones removed: 1
 module 3, purge line from 0 to 1736836800020: tombstones removed: 1
+sp_store_merge: refused with UNEQUAL_LINES
 module 2, REPL comp/scale-3 = +120 ppm at (1736836800000, 0, 1): OK
 module 2, REPL test-load = 50 kg at (1736836800001, 0, 1): ERR BELOW_LINE
-sp_store_merge: refused with UNEQUAL_LINES
 module 2, GET test-load: NOTFOUND
+module 2 merges the store of module 4: passed over: 0
 ";
 
 #[test]

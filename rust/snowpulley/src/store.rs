@@ -118,16 +118,22 @@ pub fn merge(receiver: &mut [u8], giver: &[u8]) -> Result<usize, Refusal> {
     split(raw::store_merge(receiver, giver)).map(usize::from)
 }
 
-/// The store's purge line, 0 if it was never purged.
+/// The store's purge line in milliseconds, 0 if it was never purged; refused
+/// with `BadStore`.
 pub fn line(store: &[u8]) -> Result<u64, Refusal> {
     let mut line = [0];
     split(raw::store_line(store, &mut line))?;
     Ok(line[0])
 }
 
-/// Removes the tombstones whose time is below the line, and sets the store's
-/// purge line to it; how many it removed. To be done on all modules of a site,
-/// to one line, after they have merged with each other.
+/// Removes the tombstones whose time is below the line, in milliseconds, and
+/// sets the store's purge line to it; how many it removed. Refused, in this
+/// order, with `BadStore`, `BadTime` and `LowerLine`.
+///
+/// To be done on all modules of a site, to one line in the past, after they
+/// have merged with each other. The store of a module that slept meanwhile, of
+/// one that is new, or from an older copy is not purged, but made anew as a copy
+/// of a neighbour's bytes: `include/snowpulley.h` says more.
 pub fn purge(store: &mut [u8], line: u64) -> Result<usize, Refusal> {
     split(raw::store_purge(store, line)).map(usize::from)
 }

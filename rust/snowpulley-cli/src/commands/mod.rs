@@ -2,6 +2,7 @@
 
 mod audit;
 mod demo;
+mod offer;
 mod owners;
 mod purge;
 mod refusal;
@@ -16,6 +17,7 @@ pub const ALL: &[Command] = &[
     demo::COMMAND,
     show::COMMAND,
     purge::COMMAND,
+    offer::COMMAND,
     replay::COMMAND,
     audit::COMMAND,
     owners::COMMAND,

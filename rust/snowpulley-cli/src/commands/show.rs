@@ -4,8 +4,8 @@ use crate::args::Args;
 use crate::cli::{Command, Outcome, Report};
 use crate::faults::{self, Fault};
 use crate::files;
-use crate::text::bytes::{shown, SHORT};
-use crate::text::entries::{self, Row, COLUMNS};
+use crate::text::bytes::{limit, shown};
+use crate::text::entries::{self, with_note, Row, COLUMNS};
 use crate::text::table::{Side, Table};
 use crate::text::time::line_shown;
 use snowpulley::image::{self, Header, Slot};
@@ -29,11 +29,7 @@ its slot, and shows what the bytes say all the same.
 };
 
 fn run(mut args: Args) -> Outcome {
-    let limit = if args.flag("--full") {
-        usize::MAX
-    } else {
-        SHORT
-    };
+    let limit = limit(args.flag("--full"));
     let image = files::read(&args.operand("STORE")?)?;
     Ok(match store::entries(&image) {
         Ok(entries) => Report::good(sound(&image, &entries, limit)),
@@ -97,20 +93,14 @@ fn unsound(image: &[u8], limit: usize) -> String {
 
 /// The columns of a sound store's table, and each slot's own fault.
 fn read_all_the_same(slots: &[(Slot<'_>, Option<Fault>)], limit: usize) -> Table<9> {
-    let mut table = Table::new(with_fault((Side::Left, "fault"), COLUMNS));
+    let mut table = Table::new(with_note((Side::Left, "fault"), COLUMNS));
     for (index, (slot, fault)) in slots.iter().enumerate() {
         if !slot.is_zero() {
             let fault = fault.map_or("none", |fault| fault.name).to_string();
-            table.push(with_fault(fault, row(index, *slot, limit).cells()));
+            table.push(with_note(fault, row(index, *slot, limit).cells()));
         }
     }
     table
-}
-
-/// The fault stands after the slot's number.
-fn with_fault<T>(fault: T, cells: [T; 8]) -> [T; 9] {
-    let [slot, state, key, utc, phys, logical, node, value] = cells;
-    [slot, fault, state, key, utc, phys, logical, node, value]
 }
 
 fn row(slot: usize, bytes: Slot<'_>, limit: usize) -> Row {

@@ -4,6 +4,14 @@
 /// for.
 pub const SHORT: usize = 24;
 
+pub fn limit(full: bool) -> usize {
+    if full {
+        usize::MAX
+    } else {
+        SHORT
+    }
+}
+
 /// At most `limit` bytes: printable ASCII in quotes, anything else in
 /// hexadecimal. So no control code reaches a terminal, and keys that differ do
 /// not look alike.

@@ -45,22 +45,32 @@ impl Row {
     }
 }
 
+/// The row of an entry of a sound store.
+pub fn row(slot: usize, entry: &Entry<'_>, limit: usize) -> Row {
+    let (state, value) = match entry.content {
+        Content::Active(value) => ("active", shown(value, limit)),
+        Content::Tombstone => ("tombstone", String::new()),
+    };
+    Row {
+        slot,
+        state: state.to_string(),
+        key: shown(entry.key, limit),
+        stamp: entry.stamp,
+        value,
+    }
+}
+
 /// One row for each entry of a sound store.
 pub fn table(entries: &[Entry<'_>], limit: usize) -> Table<8> {
     let mut table = Table::new(COLUMNS);
     for (slot, entry) in entries.iter().enumerate() {
-        let (state, value) = match entry.content {
-            Content::Active(value) => ("active", shown(value, limit)),
-            Content::Tombstone => ("tombstone", String::new()),
-        };
-        let row = Row {
-            slot,
-            state: state.to_string(),
-            key: shown(entry.key, limit),
-            stamp: entry.stamp,
-            value,
-        };
-        table.push(row.cells());
+        table.push(row(slot, entry, limit).cells());
     }
     table
+}
+
+/// The cells of a row, or the columns, with one more after the slot's number.
+pub fn with_note<T>(note: T, cells: [T; 8]) -> [T; 9] {
+    let [slot, state, key, utc, phys, logical, node, value] = cells;
+    [slot, note, state, key, utc, phys, logical, node, value]
 }

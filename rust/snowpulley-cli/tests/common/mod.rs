@@ -3,6 +3,8 @@
 // Each test file uses its own part of this.
 #![allow(dead_code)]
 
+use reference::stamp::Stamp;
+use reference::store::{create, image_length, offer};
 use std::ffi::OsStr;
 use std::io::Write;
 use std::path::{Path, PathBuf};
@@ -93,4 +95,26 @@ pub fn file(name: &str, bytes: &[u8]) -> PathBuf {
     let path = temporary(name);
     std::fs::write(&path, bytes).expect("the file is written");
     path
+}
+
+/// Key, value, flag and phys of an entry of module 1.
+pub type Given<'a> = (&'a [u8], &'a [u8], u8, u64);
+
+/// Whether the reference takes the entry.
+pub fn offered(image: &mut [u8], (key, value, flag, phys): Given<'_>) -> bool {
+    let (logical, node) = (0, 1);
+    let stamp = Stamp {
+        phys,
+        logical,
+        node,
+    };
+    offer(image, key, value, flag, stamp).is_ok()
+}
+
+/// The reference's store of some entries.
+pub fn store_of(slots: usize, entries: &[Given<'_>]) -> Vec<u8> {
+    let mut image = vec![0; image_length(slots)];
+    create(&mut image, slots).expect("a number of slots");
+    assert!(entries.iter().all(|&entry| offered(&mut image, entry)));
+    image
 }

@@ -86,7 +86,8 @@ pub const LIMITS_TITLE: &str = "What this report does not say";
 pub const LIMITS: [&str; 6] = [
     "The module's own PUT and DEL (what was set or deleted on the module itself), and what came \
      in a merged store (all of another module's at once), are not in the list. If one of them has \
-     a greater stamp, or the same stamp and higher contents, the module holds that one.",
+     a greater stamp, or the same stamp and higher contents, the module holds that one, or nothing \
+     if it was a tombstone that a purge removed.",
     "The list may lack deliveries that came, or have some that did not come.",
     "The module may have refused a delivery of the list, as with a full store, with a clock that \
      can count no further, or below its purge line. A purge may have removed a tombstone that is \

@@ -23,10 +23,11 @@ pub const COMMAND: Command = Command {
     help: &["\
 Two modules agree on a correction. One sleeps while the other is mended, wakes
 and offers the old one. Then a module that was restored from a spare card reuses
-a stamp. At last the mark of a deletion is cleared, and a third module, which
-slept meanwhile, offers what was deleted. Each line is a call of the proved
-library and names the theorem, of docs/AUDIT.md, or the definition that it
-shows. A line that does not hold is marked WRONG, and is a negative answer.
+a stamp. At last the mark of a deletion is cleared, a third module, which slept
+meanwhile, offers what was deleted, and its store is made anew. Each line is a
+call of the proved library and names the theorem, of docs/AUDIT.md, or the
+definition that it shows. A line that does not hold is marked WRONG, and is a
+negative answer.
 "],
     run,
 };
@@ -69,7 +70,7 @@ fn run(args: Args) -> Outcome {
 struct Demo {
     /// Module 1 is mended; module 2 sleeps meanwhile.
     modules: [Module; 2],
-    /// The store of module 3, which sleeps from the beginning to the end.
+    /// The store of module 3, which sleeps until the others are purged.
     asleep: Vec<u8>,
     tale: Tale,
 }

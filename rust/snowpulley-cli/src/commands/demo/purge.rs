@@ -28,7 +28,12 @@ impl Demo {
         self.tale.heading(heading);
         self.send_old()?;
         self.merge_old();
-        self.look_up("nothing-comes-back", NEXT_DAY, First, LOAD, Found::Never)
+        self.look_up("nothing-comes-back", NEXT_DAY, First, LOAD, Found::Never)?;
+        let heading = "Module 3's store is made anew, as a copy of module 1's: they merge again.";
+        self.tale.heading(heading);
+        self.asleep = self.store(First).clone();
+        self.merge_copy();
+        Ok(())
     }
 
     /// What module 3 holds is all below the line: of a held key the newer entry
@@ -52,5 +57,17 @@ impl Demo {
         let said = format!("merges module 3's store: {name}");
         let holds = told == Err(Refusal::UnequalLines) && *self.store(First) == before;
         self.check("mergeAnswer", NEXT_DAY, First, &said, holds);
+    }
+
+    fn merge_copy(&mut self) {
+        let copy = self.asleep.clone();
+        let told = store::merge(self.store(First), &copy);
+        let passed = told.map_or_else(
+            |refusal| refusal.name().to_string(),
+            |passed| format!("entries passed over: {passed}"),
+        );
+        let said = format!("merges module 3's store: {passed}");
+        let holds = told == Ok(0) && *self.store(First) == copy;
+        self.check("history-after-purge", NEXT_DAY, First, &said, holds);
     }
 }
