@@ -28,8 +28,10 @@ fn main() -> ExitCode {
     match cli::run(std::env::args_os().skip(1).collect()) {
         Ok(report) => match print(&report.text) {
             Ok(()) => report.status(),
-            // What the command wrote to files stands there.
-            Err(error) => told(&format!("done, but the report cannot be printed: {error}")),
+            // Whatever the answer was: what the command wrote to files stands there.
+            Err(error) => told(&format!(
+                "the report cannot be printed: {error}; files may have been written"
+            )),
         },
         Err(Failure { message }) => told(&message),
     }

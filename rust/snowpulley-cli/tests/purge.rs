@@ -103,17 +103,21 @@ fn lines_are_times() {
     assert_eq!(fs::read(&output).unwrap(), purged((1 << 48) - 1));
 }
 
-/// The report is lost, the store is not: the message says so.
+/// The report is lost, and the message does not say what became of the store:
+/// the second purge is refused.
 #[test]
 fn a_report_that_cannot_be_printed() {
     let path = file("purge-unprinted", &image());
-    let mut command = tool(&["purge", path.to_str().unwrap(), "1"]);
-    let full = fs::File::options().write(true).open("/dev/full").unwrap();
-    let ended = command.stdout(full).output().unwrap();
-    let err = String::from_utf8(ended.stderr).unwrap();
-    assert_eq!(ended.status.code(), Some(2));
-    assert!(err.starts_with("snowpulley: done, but the report cannot be printed: "));
-    assert_eq!(fs::read(&path).unwrap(), purged(1));
+    for line in ["2", "1"] {
+        let mut command = tool(&["purge", path.to_str().unwrap(), line]);
+        let full = fs::File::options().write(true).open("/dev/full").unwrap();
+        let ended = command.stdout(full).output().unwrap();
+        let err = String::from_utf8(ended.stderr).unwrap();
+        assert_eq!(ended.status.code(), Some(2));
+        assert!(err.starts_with("snowpulley: the report cannot be printed: "));
+        assert!(err.ends_with("; files may have been written\n"));
+        assert_eq!(fs::read(&path).unwrap(), purged(2));
+    }
 }
 
 /// Who may do anything, as root, can give a file away; the others are refused

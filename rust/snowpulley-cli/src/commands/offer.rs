@@ -16,11 +16,12 @@ pub const COMMAND: Command = Command {
     usage: "GIVER RECEIVER [--output FILE] [--full]",
     summary: "offer the entries of a store file to another one",
     help: &["\
-Offers each entry of the store GIVER to the store RECEIVER. That takes those
-that are above its own; what it refuses is listed. The stores may have different
-purge lines, with which they do not merge. Each of the two is a file, or one of
-them - for standard input. GIVER stays as it is, and RECEIVER is replaced as a
-whole or left as it is. No clock is moved.
+Offers each entry of the store GIVER to the store RECEIVER. That takes entries
+of keys that it does not hold, and those that are above its own; what it refuses
+is listed. The stores may have different purge lines, with which they do not
+merge. Each of the two is a file, or one of them - for standard input. GIVER
+stays as it is, and RECEIVER is replaced as a whole or left as it is. No clock
+is moved.
 
   --output FILE  write the changed store to a file and leave RECEIVER as it is
   --full         show long keys and values of what is refused whole
