@@ -147,13 +147,17 @@ sp_result sp_clock_fresh(uint8_t node, uint64_t *clock, size_t clock_len);
 sp_result sp_clock_send(uint64_t now, uint64_t *clock, size_t clock_len);
 
 /* Moves the clock on for a received stamp's phys and logical at the reading `now`. A phys that is
- * more than 2000 ms above `now` is far ahead: it raises the skew count, and the clock goes to the
- * later of its own phys and `now`, and its logical rises. Any other phys above the clock's own is
- * taken over, with a logical one above the received one. Else the clock's own logical rises.
+ * more than 2000 ms above `now` is far ahead, also if it is the clock's own: it raises the skew
+ * count, and the clock goes to the later of its own phys and `now`, and its logical rises. Any
+ * other phys above the clock's own is taken over, with a logical one above the received one. With
+ * a phys that is the clock's own, the clock's logical becomes one above the greater of the two.
+ * Else the clock's own logical rises. So the clock's stamp, and that of the next write, is above
+ * the received one, whichever its node, unless that is far ahead.
  *   SP_BAD_ARGUMENT     the words are no clock
  *   SP_BAD_TIME         `now`, `phys` or the clock's phys is out of range
  *   SP_CLOCK_SPENT      the count that has to rise is 65535: the received logical where its phys
- *                       is taken over, else the clock's own */
+ *                       is taken over, the greater of the two where the phys is the clock's own
+ *                       and not far ahead, else the clock's own */
 sp_result sp_clock_receive(uint64_t phys, uint16_t logical, uint64_t now, uint64_t *clock,
                            size_t clock_len);
 

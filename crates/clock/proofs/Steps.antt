@@ -5,7 +5,7 @@ use mathlib.Core.Bool.{_||_}
 use Prim.Native.Nat.{ℕ, _+_, _≤_, _<_, _^_, max}
 use native.Mathlib.Omega.{arith}
 use lib.Dec.{ltb, leb, eqb}
-use borrow.Author.Tests.{lt-ltb, le-ltb, le-leb, lt-leb, eqb-true, eqb-false}
+use borrow.Author.Tests.{lt-ltb, le-ltb, le-leb, lt-leb, ne-eqb, eqb-true, eqb-false}
 use Rattle.wire.proofs.Tests.{test}
 use Rattle.entry.specs.declared.Refusal.the-variants as refusal
 use Rattle.entry.specs.Refusal.{Numbered}
@@ -60,9 +60,9 @@ module _ (c : Clock) (p l now : ℕ) where
     unfolding receiveInRange
     ahead h = rw (le-ltb (now + 2000) p w, lt-ltb (c .phys) p h)
 
-    pub not-ahead : p ≤ c .phys → receiveInRange c p l now ≡ raise c (c .phys) (c .logical)
+    pub behind : p < c .phys → receiveInRange c p l now ≡ raise c (c .phys) (c .logical)
     unfolding receiveInRange
-    not-ahead h = rw (le-ltb (now + 2000) p w, le-ltb (c .phys) p h)
+    behind h = rw (le-ltb (now + 2000) p w, le-ltb (c .phys) p (omega arith), ne-eqb p (c .phys) (λ e. omega (arith, h, e)))
 
 -- ---- every refusal is 8 or 9
 abbrev pub StepNumbered : Stepped → Type 0
@@ -94,7 +94,10 @@ receive-numbered c p l now = elim (test (badTime now || badTime (c .phys) || bad
     | inl k ↦ rw k (raise-numbered (withSkew c) (max (c .phys) now) (c .logical))
     | inr k ↦ rw k (elim (test (ltb (c .phys) p)) [
       | inl j ↦ rw j (raise-numbered c p l)
-      | inr j ↦ rw j (raise-numbered c (c .phys) (c .logical))
+      | inr j ↦ rw j (elim (test (eqb p (c .phys))) [
+        | inl i ↦ rw i (raise-numbered c (c .phys) _)
+        | inr i ↦ rw i (raise-numbered c (c .phys) (c .logical))
+      ])
     ])
   ])
 ]

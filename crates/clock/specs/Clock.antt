@@ -1,7 +1,7 @@
 -- The clock's steps.
 use Prim.Native.Nat.{ℕ, _+_, _^_, max}
 use mathlib.Core.Bool.{cond, _||_}
-use lib.Dec.{ltb, leb}
+use lib.Dec.{ltb, leb, eqb}
 use Rattle.entry.specs.declared.Stamp.{Stamp}
 use Rattle.entry.specs.Entry.{badTime}
 use Rattle.clock.specs.declared.Clock.{Clock}
@@ -35,12 +35,14 @@ sendStep c now =
     (raise c (c .phys) (c .logical)))
 
 -- receive (p, l) at now: if p > now + 2000, the clock becomes (max(P, now), L + 1) and the skew
--- count rises; otherwise, if p > P, it becomes (p, l + 1); otherwise (P, L + 1) (R96 to R98)
+-- count rises; otherwise, if p > P, it becomes (p, l + 1); otherwise, if p = P, it becomes
+-- (P, max(L, l) + 1); otherwise (P, L + 1) (R96 to R98, R268)
 unfoldable pub receiveInRange : Clock → ℕ → ℕ → ℕ → Stepped
 receiveInRange c p l now =
     cond (ltb (now + 2000) p) (raise (withSkew c) (max (c .phys) now) (c .logical))
     (cond (ltb (c .phys) p) (raise c p l)
-    (raise c (c .phys) (c .logical)))
+    (cond (eqb p (c .phys)) (raise c (c .phys) (max (c .logical) l))
+    (raise c (c .phys) (c .logical))))
 
 unfoldable pub receiveStep : Clock → ℕ → ℕ → ℕ → Stepped  -- (R26, R33)
 receiveStep c p l now = cond (badTime now || badTime (c .phys) || badTime p) (refused 9) (receiveInRange c p l now)

@@ -4,7 +4,7 @@ use entry::Stamp;
 use entry::TIME_LIMIT;
 use entry::later;
 ghost use mathlib.Core.Path.{_≡_};
-ghost use Prim.Native.Nat.{_^_, _<_};
+ghost use Prim.Native.Nat.{_^_, _<_, max};
 ghost use Rattle.clock.specs.Clock.{freshClock, stampOf, raise, withSkew, sendStep, receiveInRange, receiveStep};
 ghost use Rattle.clock.specs.Answer.{stepMeaning, Sends, Receives};
 
@@ -47,6 +47,13 @@ pub enum ReceiveAnswer {
 pub struct Receipt {
     pub clock: Clock,
     pub answer: ReceiveAnswer,
+}
+
+// The greater of two logical counts.
+fn greater(a: u16, b: u16) -> u16
+    ensures { λ r. ⌜ r ≡ max a b ⌝ }
+{
+    if a < b { b } else { a }
 }
 
 impl Clock {
@@ -149,6 +156,9 @@ impl Clock {
         }
         if self.phys < phys {
             return self.raised(phys, logical);
+        }
+        if self.phys == phys {
+            return self.raised(self.phys, greater(self.logical, logical));
         }
         self.raised(self.phys, self.logical)
     }

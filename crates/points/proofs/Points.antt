@@ -30,7 +30,7 @@ all-points-hold = (
         (
           refl,
           (
-            (refl, refl),
+            refl,
             (
               (refl, refl),
               (
@@ -43,16 +43,7 @@ all-points-hold = (
                       (refl, refl),
                       (
                         (refl, refl),
-                        (
-                          (refl, refl),
-                          (
-                            (refl, refl),
-                            (
-                              (refl, refl),
-                              ((refl, refl), tt),
-                            ),
-                          ),
-                        ),
+                        ((refl, refl), ((refl, refl), ((refl, refl), ((refl, refl), ((refl, refl), tt))))),
                       ),
                     ),
                   ),

@@ -40,10 +40,10 @@ places = placeNumber 100 1 0 ∷ placeNumber 200 2 0 ∷ placeNumber 200 3 0 ∷
 abbrev pub lent : ℕ → List ℕ
 lent n = replicate n 255
 
-pub data Point : Type 0 where  -- (R210, R212 to R216, R218 to R223)
+pub data Point : Type 0 where  -- (R210, R212 to R216, R218 to R223, R269)
   -- a clock that sends at `now`, and the clock after it (R212 to R214)
   send : (c : Clock) (now : ℕ) (after : Clock) → Point
-  -- a clock that receives (p, l) at `now`, and the clock after it (R215, R216)
+  -- a clock that receives (p, l) at `now`, and the clock after it (R215, R216, R269)
   receive : (c : Clock) (p l now : ℕ) (after : Clock) → Point
   -- the peers, which of them are admitted, a position and r; the answer and the three lent bytes after it (R218 to R221)
   walk : (peers : PeerTable) (a : Admission) (x r : ℕ) (answer : Answer) (after : List ℕ) → Point
@@ -63,13 +63,14 @@ abbrev pub AllHold : List Point → Type 0
 AllHold [] = Unit
 AllHold (p ∷ ps) = Holds p × AllHold ps
 
-abbrev pub points : List Point  -- (R210, R212 to R216, R218 to R223)
+abbrev pub points : List Point  -- (R210, R212 to R216, R218 to R223, R269)
 points =
     send (clockAt 1000 5 0) 1000 (clockAt 1000 6 0)  -- (R212)
     ∷ send (clockAt 1000 5 0) 1001 (clockAt 1001 0 0)  -- (R213)
     ∷ send (clockAt 1000 5 0) 400 (clockAt 1000 6 0)  -- (R214)
     ∷ receive (clockAt 1000 5 0) 3000 2 1000 (clockAt 3000 3 0)  -- (R215)
     ∷ receive (clockAt 1000 5 0) 3001 2 1000 (clockAt 1000 6 1)  -- (R216)
+    ∷ receive (clockAt 1000 5 0) 1000 9 1000 (clockAt 1000 10 0)  -- (R269)
     -- all ALIVE, so that HOME and STANDING admit the same
     ∷ walk (threePeers 0 0) Home 200 2 (gives 2) (2 ∷ 3 ∷ lent 1)  -- (R218)
     ∷ walk (threePeers 0 0) Standing 200 2 (gives 2) (2 ∷ 3 ∷ lent 1)  -- (R218)

@@ -2,7 +2,7 @@
 //! that the header names for a call, and each of its answers.
 
 use differential::families::reused::{LOWER_TIES, TIES};
-use differential::families::{handler, purge};
+use differential::families::{clock, handler, purge};
 use differential::FAMILIES;
 
 /// How many shares of cases each family runs, from several seeds.
@@ -49,10 +49,11 @@ fn frames() {
 
 #[test]
 fn clock() {
-    let reach: [Reach; 3] = [
+    let reach: [Reach; 4] = [
         ("clock_fresh", &[0], &[4]),
         ("clock_send", &[0], &[17, 9, 8]),
         ("clock_receive", &[0], &[17, 9, 8]),
+        ("receive at an equal time", &clock::EQUAL_TIMES, &[]),
     ];
     run("clock", &reach);
 }
@@ -104,8 +105,10 @@ fn store() {
 
 #[test]
 fn handler() {
-    let reach: [Reach; 4] = [
+    let met = "REPL at an equal time, then a write";
+    let reach: [Reach; 5] = [
         ("handle", &[], &[17, 4, 5, 9, 3, 1, 2, 8, 7, 34, 6]),
+        (met, &handler::EQUAL_TIMES, &[]),
         ("refused below the line", &handler::BELOW, &[]),
         ("local write at an equal stamp", &TIES, &[]),
         ("REPL at an equal stamp", &TIES, &[]),

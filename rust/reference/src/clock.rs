@@ -56,6 +56,8 @@ impl Clock {
             Ok(next)
         } else if phys > self.phys {
             Ok(self.at(phys, raised(logical)?))
+        } else if phys == self.phys {
+            Ok(self.at(self.phys, raised(self.logical.max(logical))?))
         } else {
             Ok(self.at(self.phys, raised(self.logical)?))
         }

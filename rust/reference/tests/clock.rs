@@ -47,10 +47,38 @@ fn receive_points() {
     assert_eq!(start.receive(3000, 2, 1000), Ok(clock(3000, 3)));
     assert_eq!(start.receive(3001, 2, 1000), Ok(skewed(1000, 6)));
     assert_eq!(start.receive(1001, 9, 1000), Ok(clock(1001, 10)));
-    assert_eq!(start.receive(1000, 9, 1000), Ok(clock(1000, 6)));
+    assert_eq!(start.receive(1000, 9, 1000), Ok(clock(1000, 10)));
     assert_eq!(start.receive(999, 9, 1000), Ok(clock(1000, 6)));
     assert_eq!(start.receive(1001, 0, 5000), Ok(clock(1001, 1)));
     assert_eq!(start.receive(999, 0, 5000), Ok(clock(1000, 6)));
+}
+
+#[test]
+fn an_equal_time_takes_the_greater_count() {
+    let start = clock(1000, 5);
+    for (received, count) in [(0, 6), (4, 6), (5, 6), (6, 7), (65_534, 65_535)] {
+        assert_eq!(
+            start.receive(1000, received, 1000),
+            Ok(clock(1000, count)),
+            "{received}"
+        );
+    }
+    // The reading only says whether it is far ahead.
+    assert_eq!(start.receive(1000, 9, 0), Ok(clock(1000, 10)));
+    assert_eq!(start.receive(1000, 9, 5000), Ok(clock(1000, 10)));
+    assert_eq!(clock(0, 0).receive(0, 3, 0), Ok(clock(0, 4)));
+    assert_eq!(clock(LAST, 1).receive(LAST, 3, LAST), Ok(clock(LAST, 4)));
+}
+
+/// After the readings have gone back, the clock's own time may be far ahead.
+#[test]
+fn an_equal_time_that_is_far_ahead_is_far_ahead() {
+    let start = clock(5000, 5);
+    assert_eq!(start.receive(5000, 9, 3000), Ok(clock(5000, 10)));
+    assert_eq!(start.receive(5000, 9, 2999), Ok(skewed(5000, 6)));
+    assert_eq!(start.receive(5000, 65_535, 2999), Ok(skewed(5000, 6)));
+    let spent = clock(5000, 65_535);
+    assert_eq!(spent.receive(5000, 9, 2999), Err(Refusal::ClockSpent));
 }
 
 #[test]
@@ -70,7 +98,12 @@ fn a_spent_count_refuses_every_receive_that_raises_it() {
     let start = clock(1000, 5);
     assert_eq!(start.receive(1001, 65_535, 1000), Err(Refusal::ClockSpent));
     assert_eq!(start.receive(1001, 65_534, 1000), Ok(clock(1001, 65_535)));
-    assert_eq!(start.receive(1000, 65_535, 1000), Ok(clock(1000, 6)));
+    assert_eq!(start.receive(1000, 65_535, 1000), Err(Refusal::ClockSpent));
+    assert_eq!(start.receive(1000, 65_534, 1000), Ok(clock(1000, 65_535)));
+    assert_eq!(spent.receive(1000, 65_535, 1000), Err(Refusal::ClockSpent));
+    let last = clock(1000, 65_534);
+    assert_eq!(last.receive(1000, 0, 1000), Ok(clock(1000, 65_535)));
+    assert_eq!(start.receive(999, 65_535, 1000), Ok(clock(1000, 6)));
     assert_eq!(start.receive(9000, 65_535, 1000), Ok(skewed(1000, 6)));
 }
 
@@ -100,7 +133,7 @@ fn times_out_of_range_come_before_a_spent_count() {
 }
 
 #[test]
-fn every_step_raises_the_stamp() {
+fn every_step_raises_the_stamp_above_what_came() {
     let mut rng = Rng::new(2);
     let mut held = Clock::fresh(1);
     for _ in 0..100_000 {
@@ -108,7 +141,17 @@ fn every_step_raises_the_stamp() {
         let next = if rng.one_in(2) {
             held.send(now)
         } else {
-            held.receive(now + rng.below(2100), rng.below(4) as u16, now)
+            let phys = match rng.below(3) {
+                0 => held.phys,
+                _ => now + rng.below(2100),
+            };
+            let logical = rng.below(4) as u16;
+            let next = held.receive(phys, logical, now);
+            if phys <= now + 2000 {
+                let after = next.expect("the count stays small");
+                assert!((after.phys, after.logical) > (phys, logical));
+            }
+            next
         };
         let next = next.expect("the count stays small");
         assert!(next.stamp() > held.stamp());

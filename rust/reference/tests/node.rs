@@ -124,6 +124,23 @@ fn put_get_del() {
     assert_eq!(node.clock, clock(1001, 1));
 }
 
+/// A write after a REPL in the same millisecond, whose count is above the own.
+#[test]
+fn a_mend_in_the_same_millisecond_is_above_what_came() {
+    let mut node = Node::new(2);
+    node.ok(1000, &put(b"own", b""));
+    node.ok(1000, &repl(b"k", 0, stamp(1000, 9, 2), b"wrong"));
+    assert_eq!(node.clock, clock(1000, 10));
+    node.ok(1000, &put(b"k", b"mended"));
+    assert_eq!(node.ask(1000, &get(b"k")), value(b"mended"));
+    let held = entries(&node.store).unwrap();
+    assert_eq!(held[0].stamp, stamp(1000, 11, 1));
+    // A count that cannot be passed is refused, and with it the entry.
+    let last = repl(b"k", 0, stamp(1000, 65_535, 2), b"last");
+    node.refused(1000, &last, Refusal::ClockSpent);
+    assert_eq!(node.ask(1000, &get(b"k")), value(b"mended"));
+}
+
 #[test]
 fn replicated_entries_keep_their_stamps() {
     let mut node = Node::new(3);
@@ -405,6 +422,9 @@ struct Naive {
     held: Held,
     /// How each entry that came with a held stamp compared with the held one.
     ties: Vec<Ordering>,
+    /// Of each stamp taken with the clock's own time: whether it was far ahead,
+    /// and how its count compared with the clock's.
+    equal_times: Vec<(bool, Ordering)>,
 }
 
 impl Naive {
@@ -416,6 +436,7 @@ impl Naive {
             skew: 0,
             held: Held::new(),
             ties: Vec::new(),
+            equal_times: Vec::new(),
         }
     }
 
@@ -468,13 +489,18 @@ impl Naive {
         value: Option<Vec<u8>>,
     ) -> Result<(), u8> {
         let far = stamp.phys > now + 2000;
-        let next = match (far, stamp.phys > self.clock.0) {
-            (true, _) => (self.clock.0.max(now), self.clock.1 + 1),
-            (false, true) => (stamp.phys, u64::from(stamp.logical) + 1),
-            (false, false) => (self.clock.0, self.clock.1 + 1),
+        let (came, at) = ((stamp.phys, u64::from(stamp.logical)), self.clock);
+        let from = if far {
+            (at.0.max(now), at.1)
+        } else {
+            at.max(came)
         };
+        let next = (from.0, from.1 + 1);
         if next.1 > 65_535 {
             return Err(8);
+        }
+        if came.0 == at.0 {
+            self.equal_times.push((far, came.1.cmp(&at.1)));
         }
         if self.is_above(key, stamp, value.as_ref()) {
             self.hold(key, stamp, value)?;
@@ -516,7 +542,8 @@ impl Naive {
     }
 }
 
-fn random_request(rng: &mut Rng, now: u64) -> Message {
+/// A request at a time, to a clock whose own time is `own`.
+fn random_request(rng: &mut Rng, now: u64, own: u64) -> Message {
     let key = vec![b'a' + rng.below(6) as u8; 1 + rng.index(2)];
     let length = rng.index(6);
     let value = rng.bytes(length);
@@ -526,7 +553,10 @@ fn random_request(rng: &mut Rng, now: u64) -> Message {
         rng.below(4)
     };
     let stamp = Stamp {
-        phys: now.saturating_sub(20) + rng.below(40) + rng.below(2) * 1980,
+        phys: match rng.below(4) {
+            0 => own,
+            _ => now.saturating_sub(20) + rng.below(40) + rng.below(2) * 1980,
+        },
         logical: logical as u16,
         node: rng.below(3) as u8,
     };
@@ -570,16 +600,17 @@ fn tied_request(rng: &mut Rng, held: &Held) -> Option<Message> {
     })
 }
 
-fn next_request(rng: &mut Rng, now: u64, held: &Held) -> Message {
-    let tied = rng.one_in(6).then(|| tied_request(rng, held)).flatten();
-    tied.unwrap_or_else(|| random_request(rng, now))
+fn next_request(rng: &mut Rng, now: u64, naive: &Naive) -> Message {
+    let tied = rng.one_in(6).then(|| tied_request(rng, &naive.held));
+    tied.flatten()
+        .unwrap_or_else(|| random_request(rng, now, naive.clock.0))
 }
 
 #[test]
 fn random_requests_agree_with_the_naive_handler() {
     let mut rng = Rng::new(15);
     let mut numbers = [0; 256];
-    let mut ties = Vec::new();
+    let (mut ties, mut equal_times) = (Vec::new(), Vec::new());
     for round in 0..60 {
         let mut node = Node::new(1 + round % 8);
         let mut naive = Naive::new(1 + round % 8);
@@ -591,7 +622,7 @@ fn random_requests_agree_with_the_naive_handler() {
                 purge(&mut node.store, line).unwrap();
                 naive.purge(line);
             }
-            let request = next_request(&mut rng, now, &naive.held);
+            let request = next_request(&mut rng, now, &naive);
             let reply = node.ask(now, &framed(&request));
             assert_eq!(reply, naive.answer(now, &request));
             assert_eq!(
@@ -606,11 +637,15 @@ fn random_requests_agree_with_the_naive_handler() {
         assert!(is_sound(&node.store));
         assert_eq!(held_by(&node.store), naive.held);
         ties.extend(naive.ties);
+        equal_times.extend(naive.equal_times);
     }
     for number in [3, 6, 7, 8, 34] {
         assert!(numbers[number] > 10, "{numbers:?}");
     }
     for order in [Ordering::Less, Ordering::Equal, Ordering::Greater] {
         assert!(ties.iter().filter(|tie| **tie == order).count() > 100);
+        let inside = equal_times.iter().filter(|met| **met == (false, order));
+        assert!(inside.count() > 10, "{order:?}");
     }
+    assert!(equal_times.iter().filter(|(far, _)| *far).count() > 10);
 }

@@ -21,6 +21,7 @@ pub fn script() -> Script {
     far_ahead(&mut script);
     overtaken_leaves_the_clock(&mut script);
     ahead_by_the_limit(&mut script);
+    equal_times(&mut script);
     reused_stamps(&mut script);
     spent_clock(&mut script);
     bad_keys_and_values(&mut script);
@@ -157,6 +158,29 @@ fn ahead_by_the_limit(s: &mut Script) {
     s.get(28_500, b"j", value(b"mine again"));
     s.repl(28_500, b"j", stamp(29_000, 11, 2), Some(b"theirs"), OK);
     s.get(28_500, b"j", value(b"theirs"));
+}
+
+fn equal_times(s: &mut Script) {
+    let at = 31_000;
+    s.put(at, b"n", b"mine", OK);
+    // The count that came is the greater one: the clock takes (31000, 10).
+    s.repl(at, b"m", stamp(at, 9, 2), Some(b"wrong"), OK);
+    s.put(at, b"m", b"mended", OK);
+    s.get(at, b"m", value(b"mended"));
+    s.repl(at, b"m", stamp(at, 10, 255), Some(b"lower"), OK);
+    s.get(at, b"m", value(b"mended"));
+    // The own count is the greater one: the clock takes (31000, 13).
+    s.repl(at, b"n", stamp(at, 3, 2), Some(b"theirs"), OK);
+    s.del(at, b"n", OK);
+    s.repl(at, b"n", stamp(at, 13, 255), Some(b"lower"), OK);
+    s.get(at, b"n", NOTFOUND);
+    s.repl(at, b"n", stamp(at, 65_535, 2), Some(b"spent"), err(8));
+    s.get(at, b"n", NOTFOUND);
+    // A reading that went back: the clock's own time is far ahead of it.
+    s.repl(at - 2001, b"m", stamp(at, 60_000, 2), Some(b"far"), OK);
+    s.put(at, b"m", b"mine", err(7));
+    s.put(at + 1, b"m", b"mine", OK);
+    s.get(at, b"m", value(b"mine"));
 }
 
 fn reused_stamps(s: &mut Script) {

@@ -28,7 +28,8 @@ impl Clock {
         self.step(|words| raw::clock_send(now, words))
     }
 
-    /// Moves the clock on for the received stamp (phys, logical).
+    /// Moves the clock on for the received stamp (phys, logical): above it,
+    /// unless it is far ahead.
     pub fn receive(&mut self, phys: u64, logical: u16, now: u64) -> Result<(), Refusal> {
         self.step(|words| raw::clock_receive(phys, logical, now, words))
     }

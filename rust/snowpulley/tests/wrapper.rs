@@ -37,6 +37,14 @@ fn clock_steps() {
     let mut far = clock;
     assert_eq!(far.receive(3001, 2, 1000), Ok(()));
     assert_eq!(far.words(), [1000, 6, 9, 1]);
+    let mut equal = clock;
+    assert_eq!(equal.receive(1000, 9, 1000), Ok(()));
+    assert_eq!(equal.words(), [1000, 10, 9, 0]);
+    assert_eq!(
+        equal.receive(1000, u16::MAX, 1000),
+        Err(Refusal::ClockSpent)
+    );
+    assert_eq!(equal.words(), [1000, 10, 9, 0]);
     clock.logical = u16::MAX;
     let before = clock;
     assert_eq!(clock.send(1000), Err(Refusal::ClockSpent));

@@ -1,7 +1,7 @@
 //! Whole journals of requests against a live store, and single requests to
 //! anything.
 
-use super::clock::any_clock;
+use super::clock::{any_clock, count};
 use super::image::{damage, empty, filled, slots, small_entry};
 use super::message::{any_frame, damaged, framed, odd_frame, repl};
 use super::reused::{again, held, tie};
@@ -19,10 +19,11 @@ pub fn run(seed: u64, count: u64) -> Tally {
 }
 
 fn case(run: &mut Run, rng: &mut Rng) {
-    match rng.below(5) {
+    match rng.below(6) {
         0 => single(run, rng),
         1 => equal_stamps(run, rng),
         2 => about_the_line(run, rng),
+        3 => equal_times(run, rng),
         _ => journal(run, rng),
     }
 }
@@ -85,6 +86,38 @@ fn equal_stamps(run: &mut Run, rng: &mut Rng) {
         }
     }
 }
+
+/// A REPL with the clock's own time, then a local write of its key at the same
+/// reading.
+fn equal_times(run: &mut Run, rng: &mut Rng) {
+    let slots = slots(rng);
+    let mut state = (filled(rng, slots), vec![], vec![]);
+    for _ in 0..15 {
+        let key = pool_key(rng);
+        let (mut entry, own) = (small_entry(rng, key), count(rng));
+        entry.stamp.logical = count(rng);
+        let (now, came) = (entry.stamp.phys, entry.stamp.logical);
+        state.1 = vec![now, own.into(), rng.below(4), 0];
+        let answers = [repl(entry.clone()), local(entry)].map(|message| {
+            state.2 = reply(rng);
+            request(run, &mut state, now, &framed(&message)) >> 16
+        });
+        let met = match answers {
+            [0, 0] => Some(u32::from(came >= own) + u32::from(came > own)),
+            [8, _] if own < u16::MAX => Some(3),
+            [0, 8] => Some(4),
+            _ => None,
+        };
+        if let Some(met) = met {
+            run.count("REPL at an equal time, then a write", met);
+        }
+    }
+}
+
+/// What is counted there: both are taken, and the count that came is below the
+/// clock's own (0), equal (1) or above (2); 3: the REPL is refused since the
+/// count that came is spent; 4: it is taken, and leaves the clock spent.
+pub const EQUAL_TIMES: [u32; 5] = [0, 1, 2, 3, 4];
 
 /// Requests to a purged store, with times about its line.
 fn about_the_line(run: &mut Run, rng: &mut Rng) {
