@@ -151,7 +151,7 @@ sp_result sp_clock_send(uint64_t now, uint64_t *clock, size_t clock_len);
  * count, and the clock goes to the later of its own phys and `now`, and its logical rises. Any
  * other phys above the clock's own is taken over, with a logical one above the received one. With
  * a phys that is the clock's own, the clock's logical becomes one above the greater of the two.
- * Else the clock's own logical rises. So the clock's stamp, and that of the next write, is above
+ * Else the clock's own logical rises. So the clock's stamp, and that of every later write, is above
  * the received one, whichever its node, unless that is far ahead.
  *   SP_BAD_ARGUMENT     the words are no clock
  *   SP_BAD_TIME         `now`, `phys` or the clock's phys is out of range
@@ -450,7 +450,10 @@ sp_result sp_store_purge(uint8_t *store, size_t store_len, uint64_t line);
  *   SP_VALUE_TOO_LARGE  the value has more than SP_VALUE_MAX bytes
  *   SP_CLOCK_SPENT      as sp_clock_send for PUT and DEL, and sp_clock_receive for REPL
  *   SP_OVERTAKEN        the stamp of a PUT or DEL is not above the one held for its key, whatever
- *                       it writes
+ *                       it writes. The held entry came in a REPL and was far ahead each time
+ *                       that it was taken; or this clock, as it now stands, has not received it,
+ *                       as where it came in an offer or a merge, or was held before the clock
+ *                       began. Not given where `now` is above the held phys
  *   SP_BELOW_LINE       the key of a PUT, DEL or REPL is not held, and the phys of its stamp is
  *                       below the store's purge line
  *   SP_STORE_FULL       the key is not held, and no slot is free */

@@ -54,7 +54,7 @@ raise-next b d p l e = elim (test (leb 65535 l)) [
 ]
 
 -- (a, b) is not above (p, l)
-abbrev NotAbove : ℕ → ℕ → ℕ → ℕ → Type 0
+abbrev pub NotAbove : ℕ → ℕ → ℕ → ℕ → Type 0
 NotAbove a b p l = (a < p) ⊎ ((a ≡ p) × (b ≤ l))
 
 at-itself : (p l : ℕ) → NotAbove p l p l
@@ -123,6 +123,20 @@ send-rises c d now e = elim (test (leb (2 ^ 48) now || leb (2 ^ 48) (c .phys))) 
       ]
 ]
 
+-- a send gives a phys that is not below its reading
+pub send-reaches : (c d : Clock) (now : ℕ) → sendStep c now ≡ next d → now ≤ d .phys
+unfolding sendStep
+send-reaches c d now e = elim (test (leb (2 ^ 48) now || leb (2 ^ 48) (c .phys))) [
+  | inl p ↦ absurd-step (rw p at e)
+  | inr p ↦ elim (test (ltb (c .phys) now)) [
+    | inl q ↦
+        let f : record { phys = now; logical = 0; node = c .node; skew = c .skew } ≡ d = next-is (rw (p, q) at e) in
+        let g = ap (λ (x : Clock). x .phys) f in
+        omega (arith, g)
+    | inr q ↦ omega (arith, send-rises c d now e .phys, ltb-false (c .phys) now q)
+  ]
+]
+
 -- a clock whose skew count rises keeps its other fields
 skew-node : (c : Clock) → withSkew c .node ≡ c .node
 unfolding withSkew
@@ -132,7 +146,7 @@ skew-rises : (c : Clock) → c .skew ≤ withSkew c .skew
 unfolding withSkew
 skew-rises c = elim (test (leb 4294967295 (c .skew))) [ inl p ↦ rw p (omega arith) | inr p ↦ rw p (omega arith) ]
 
--- the four ways in which a receive moves a clock; at an equal time from a count that is below neither
+-- the four ways in which a receive moves a clock; at an equal time from a count below neither
 data Moved (c d : Clock) (p l now : ℕ) : Type 0 where
   far-ahead : now + 2000 < p → max (c .phys) now < 2 ^ 48 → raise (withSkew c) (max (c .phys) now) (c .logical) ≡ next d → Moved c d p l now
   ahead : c .phys < p → p < 2 ^ 48 → raise c p l ≡ next d → Moved c d p l now

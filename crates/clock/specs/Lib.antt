@@ -1,3 +1,4 @@
 pub mod Clock
 pub mod Answer
 pub mod Meaning
+pub mod Calls

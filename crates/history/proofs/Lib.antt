@@ -5,3 +5,4 @@ pub mod StoreAgrees
 pub mod AfterPurge
 pub mod History
 pub mod Returning
+pub mod Passing

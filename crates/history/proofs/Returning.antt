@@ -60,7 +60,7 @@ line-above p line es e l b n = elim (test (ltb (e .stamp .phys) line)) [
 ]
 
 -- ---- what is found after a purge was found before it, and was not cleared
-purge-found : (s : List ℕ) (line : ℕ) → isRefused (purgeAnswer s line) ≡ false → (k : List ℕ) (h : Entry) → find k (entriesOf (afterPurge s line)) ≡ some h
+pub purge-found : (s : List ℕ) (line : ℕ) → isRefused (purgeAnswer s line) ≡ false → (k : List ℕ) (h : Entry) → find k (entriesOf (afterPurge s line)) ≡ some h
     → (find k (entriesOf s) ≡ some h) × (cleared line h ≡ false)
 purge-found s line n k h f =
     let r = find-some k (remaining line (entriesOf s)) (ap (find k) (sym (purge-leaves s line n .entries)) ∙ f) in
@@ -100,7 +100,7 @@ module _ (t : Entry) where
           (λ n. line-above p line es g l (taken-not-below line es gs (r .0)) (sym (ap (λ (j : List ℕ). isHeld (find j es)) (r .1)) ∙ n))
 
   module _ (s : List ℕ) (k : KeptOut t s) where
-    offer-keeps-out : (e : Entry) → Representable e → KeptOut t (afterOffer s e)
+    pub offer-keeps-out : (e : Entry) → Representable e → KeptOut t (afterOffer s e)
     offer-keeps-out e r =
         let q = offer-keeps s e (k .is-sound) r in
         record {
@@ -112,7 +112,7 @@ module _ (t : Entry) where
           ]);
         }
 
-    merge-keeps-out : (g : List ℕ) → KeptOut t (afterMerge s g)
+    pub merge-keeps-out : (g : List ℕ) → KeptOut t (afterMerge s g)
     unfolding afterMerge mergedEntries
     merge-keeps-out g = elim (test (isRefused (mergeAnswer s g))) [
       | inl n ↦ rw n k
@@ -128,7 +128,7 @@ module _ (t : Entry) where
           }
     ]
 
-    purge-keeps-out : (line : ℕ) → KeptOut t (afterPurge s line)
+    pub purge-keeps-out : (line : ℕ) → KeptOut t (afterPurge s line)
     unfolding afterPurge
     purge-keeps-out line = elim (test (isRefused (purgeAnswer s line))) [
       | inl n ↦ rw n k
@@ -142,7 +142,7 @@ module _ (t : Entry) where
           }
     ]
 
-    request-keeps-out : (u : List ℕ) → (u ≡ s) ⊎ AfterOffer s u → KeptOut t u
+    pub request-keeps-out : (u : List ℕ) → (u ≡ s) ⊎ AfterOffer s u → KeptOut t u
     request-keeps-out u (inl q) = rw q k
     request-keeps-out u (inr q) = rw (q .left) (offer-keeps-out (q .entry) (q .fits))
 

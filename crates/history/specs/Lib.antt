@@ -3,3 +3,4 @@ pub mod History
 pub mod Events
 pub mod AfterPurge
 pub mod Returning
+pub mod Passing

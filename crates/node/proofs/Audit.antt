@@ -72,7 +72,7 @@ stale-replica-changes-nothing s s′ c d now e h m k f b r =
 abbrev pub Safe : List ℕ → List ℕ → Type 0
 Safe s s′ = (sound s′ ≡ true) × ((h : Entry) → h ∈ entriesOf s → StillHeld h (entriesOf s′))
 
-still : (h : Entry) (es : List Entry) (g : Entry) → find (h .key) es ≡ some g → beats h g ≡ false → StillHeld h es
+pub still : (h : Entry) (es : List Entry) (g : Entry) → find (h .key) es ≡ some g → beats h g ≡ false → StillHeld h es
 still h es g f b = let r = find-some (h .key) es f in record { entry = g; held = r .0; same-key = r .1; not-lower = beats-stamp h g b; not-beaten = b }
 
 put-still : (e : Entry) (es : List Entry) → Ascending es → (h : Entry) → h ∈ es → StillHeld h (put e es)
@@ -102,10 +102,9 @@ never-loses-or-lowers s s′ c d now m x h n i r = elim (deed s c now s′ d m x
 ]
 
 -- ---- what is found after a local write
--- a store that holds an entry with a key, a value and a flag
-pub record Holds (s : List ℕ) (k v : List ℕ) (f : ℕ) : Type 0 where
-  pub stamp : Stamp
-  pub held : find k (entriesOf s) ≡ some (entryOf k v f stamp)
+-- a store that holds an entry with a key, a value, a flag and a stamp
+pub record Holds (s : List ℕ) (k v : List ℕ) (f : ℕ) (t : Stamp) : Type 0 where
+  pub held : find k (entriesOf s) ≡ some (entryOf k v f t)
   pub is-sound : sound s ≡ true
   pub good-key : badKey k ≡ false
 
@@ -115,8 +114,8 @@ unfolding overtakenBy better
 local-better k v f t none z = refl
 local-better k v f t (some g) z = rw (above-beats (entryOf k v f t) g (not-false (stampBelow (g .stamp) t) z))
 
-written : (s : List ℕ) → sound s ≡ true → (c : Clock) → c .node < 2 ^ 8 → (now : ℕ) (k v : List ℕ) (f : ℕ) (s′ : List ℕ) (d : Clock)
-    → LocallyWrote s c now k v f s′ d → Holds s′ k v f
+pub written : (s : List ℕ) → sound s ≡ true → (c : Clock) → c .node < 2 ^ 8 → (now : ℕ) (k v : List ℕ) (f : ℕ) (s′ : List ℕ) (d : Clock)
+    → LocallyWrote s c now k v f s′ d → Holds s′ k v f (stampOf d)
 unfolding overtaken
 written s h c n now k v f s′ d w =
     let e : Entry = entryOf k v f (stampOf d) in
@@ -124,7 +123,6 @@ written s h c n now k v f s′ d w =
     let keeps = took-keeps s h e s′ (w .took) (record { logical = r .logical; node = rw (r .node) n }) in
     let b = local-better k v f (stampOf d) (find k (entriesOf s)) (w .above) in
     record {
-      stamp = stampOf d;
       held = ap (find k) (keeps .holds) ∙ find-put k e (entriesOf s) (ordered s h) ∙ rw (sameBytes-refl k) b;
       is-sound = keeps .sound;
       good-key = accepted e (offer-taken s e (w .took .taken) .ok) .good-key;

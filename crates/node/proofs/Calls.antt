@@ -89,18 +89,20 @@ module _ (s : List ℕ) (c : Clock) (now : ℕ) (frame : List ℕ) where
     -- what a call did: nothing to the store and the clock; or it stepped the clock, and
     -- offered an entry with the key of the message that its frame reads as
     pub record CallWrote : Type 0 where
+      pub accepted : left .refusal ≡ 0
       pub is-sound : sound s ≡ true
       pub asks : Message
       pub reads : readFrame frame ≡ reading.message asks
-      pub offers : Offers s c asks (left .store) (left .clock)
+      pub offers : Offers s c now asks (left .store) (left .clock)
 
     pub call-deed : ((left .store ≡ s) × (left .clock ≡ c)) ⊎ CallWrote
     call-deed = elim (test (eqb (left .refusal) 0)) [
       | inl p ↦
-          let k = served-call (eqb-true _ 0 p) in
+          let z = eqb-true (left .refusal) 0 p in
+          let k = served-call z in
           elim (deed s c now (left .store) (left .clock) (k .asks) (k .says) (k .is)) [
             | inl q ↦ inl q
-            | inr o ↦ inr (record { is-sound = k .is-sound; asks = k .asks; reads = k .reads; offers = o })
+            | inr o ↦ inr (record { accepted = z; is-sound = k .is-sound; asks = k .asks; reads = k .reads; offers = o })
           ]
       | inr p ↦ inl (refusal-changes-nothing s c now frame reply (eqb-false _ 0 p))
     ]

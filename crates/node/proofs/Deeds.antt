@@ -21,6 +21,7 @@ use Rattle.store.specs.Meaning.{Representable}
 use Rattle.store.specs.Lookup.{Finding, lookupAnswer, valuePart}
 use Rattle.store.specs.Lookup as lookup
 use Rattle.node.specs.Handler.{Served, done, refused, offerServed, offered, writeLocally, takeReplica, gets, serve}
+use Rattle.node.specs.Meaning.{LocalWrite, a-put, a-del, Replica, a-repl}
 
 pub no-done : {A : Type 0} (n : ℕ) (s : List ℕ) (d : Clock) (m : Message) → refused n ≡ done s d m → A
 no-done n s d m e = never (cc)
@@ -93,8 +94,9 @@ gets-stays s c v (lookup.refused n) = tt
 
 -- ---- any request that was served
 -- one that writes steps the clock and offers an entry with its key
-pub record Offers (s : List ℕ) (c : Clock) (m : Message) (s′ : List ℕ) (d : Clock) : Type 0 where
+pub record Offers (s : List ℕ) (c : Clock) (now : ℕ) (m : Message) (s′ : List ℕ) (d : Clock) : Type 0 where
   pub entry : Entry
+  pub writes : LocalWrite c now d m entry ⊎ Replica c now d m entry
   pub key : entry .key ≡ keyOf m
   pub rises : Rises c d
   pub took : Took s entry s′
@@ -102,11 +104,13 @@ pub record Offers (s : List ℕ) (c : Clock) (m : Message) (s′ : List ℕ) (d 
   pub fits : c .node < 2 ^ 8 → InRange m → Representable entry
 
 module _ (s : List ℕ) (c : Clock) (now : ℕ) (s′ : List ℕ) (d : Clock) where
-  wrote : (m : Message) (v : List ℕ) (f : ℕ) → LocallyWrote s c now (keyOf m) v f s′ d → Offers s c m s′ d
-  wrote m v f w =
+  wrote : (m : Message) (v : List ℕ) (f : ℕ) → (sendStep c now ≡ clock.next d → LocalWrite c now d m (entryOf (keyOf m) v f (stampOf d)))
+      → LocallyWrote s c now (keyOf m) v f s′ d → Offers s c now m s′ d
+  wrote m v f l w =
       let r = send-rises c d now (w .step) in
       record {
         entry = entryOf (keyOf m) v f (stampOf d);
+        writes = inl (l (w .step));
         key = refl;
         rises = r;
         took = w .took;
@@ -114,15 +118,16 @@ module _ (s : List ℕ) (c : Clock) (now : ℕ) (s′ : List ℕ) (d : Clock) wh
       }
 
   -- one that reads leaves the store and the clock
-  pub deed : (m x : Message) → serve s c now m ≡ done s′ d x → ((s′ ≡ s) × (d ≡ c)) ⊎ Offers s c m s′ d
+  pub deed : (m x : Message) → serve s c now m ≡ done s′ d x → ((s′ ≡ s) × (d ≡ c)) ⊎ Offers s c now m s′ d
   unfolding serve
-  deed (message.put k v) x h = inr (wrote (message.put k v) v 0 (write-done s c now k v 0 s′ d x h))
+  deed (message.put k v) x h = inr (wrote (message.put k v) v 0 (a-put k v) (write-done s c now k v 0 s′ d x h))
   deed (message.get k) x h = inl (rw h at (gets-stays s c (valuePart s k) (lookupAnswer s k)))
-  deed (message.del k) x h = inr (wrote (message.del k) [] 1 (write-done s c now k [] 1 s′ d x h))
+  deed (message.del k) x h = inr (wrote (message.del k) [] 1 (a-del k) (write-done s c now k [] 1 s′ d x h))
   deed (message.repl e) x h =
       let w = replica-done s c now e s′ d x h in
       inr (record {
         entry = e;
+        writes = inr (a-repl e (w .step));
         key = refl;
         rises = receive-rises c d (e .stamp .phys) (e .stamp .logical) now (w .step);
         took = w .took;

@@ -9,3 +9,4 @@ pub mod Calls
 pub mod WholeCalls
 pub mod Exactly
 pub mod Asking
+pub mod Overtaking

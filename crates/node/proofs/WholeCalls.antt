@@ -39,7 +39,7 @@ use Rattle.node.proofs.Audit.{unchanged-safe, kept-safe, took-keeps, re
 use Rattle.node.proofs.Audit.{get-after-put, get-after-del, never-loses-or-lowers}
 use Rattle.node.proofs.Calls.{CallWrote, passed-call, served-call, call-deed}
 
-same-message : {o : Outcome} {m n : Message} → o ≡ reading.message m → o ≡ reading.message n → m ≡ n
+pub same-message : {o : Outcome} {m n : Message} → o ≡ reading.message m → o ≡ reading.message n → m ≡ n
 same-message p q = cc
 
 pub accepted-call-serves : AcceptedCallServes
@@ -58,13 +58,13 @@ stale-frame-changes-nothing s c now frame reply e h r f b = elim (test (eqb (han
 
 -- ---- what any call leaves
 module _ (s : List ℕ) (c : Clock) (now : ℕ) (frame reply : List ℕ) (bytes : Bytes frame) (n : c .node < 2 ^ 8) (w : CallWrote s c now frame reply) where
-  abbrev o : Offers s c (w .asks) (handled s c now frame reply .store) (handled s c now frame reply .clock)
+  abbrev o : Offers s c now (w .asks) (handled s c now frame reply .store) (handled s c now frame reply .clock)
   o = w .offers
 
   wrote-fits : Representable (o .entry)
   wrote-fits = o .fits n (read-is-taken frame (w .asks) bytes (w .reads) .1)
 
-  wrote-keeps : Keeps s (put (o .entry) (entriesOf s)) (handled s c now frame reply .store)
+  pub wrote-keeps : Keeps s (put (o .entry) (entriesOf s)) (handled s c now frame reply .store)
   wrote-keeps = took-keeps s (w .is-sound) (o .entry) (handled s c now frame reply .store) (o .took) wrote-fits
 
 pub call-never-loses-or-lowers : CallNeverLosesOrLowers

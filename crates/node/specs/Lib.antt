@@ -3,3 +3,4 @@ pub mod Asked
 pub mod Answer
 pub mod Request
 pub mod Meaning
+pub mod Overtaking

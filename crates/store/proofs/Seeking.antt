@@ -218,6 +218,14 @@ module _ (line : ℕ) where
     | inr p ↦ elim (mem-cons (rw p at m)) [ inl q ↦ ap (belowLine line es) q ∙ p | inr q ↦ taken-not-below es gs q ]
   ]
 
+  pub taken-mem : (es gs : List Entry) {d : Entry} → d ∈ gs → belowLine line es d ≡ false → d ∈ taken line es gs
+  unfolding taken
+  taken-mem es [] m b = m
+  taken-mem es (g ∷ gs) {d} m b = elim (mem-cons m) [
+    | inl q ↦ let c : belowLine line es g ≡ false = ap (belowLine line es) (sym q) ∙ b in rw c (head q)
+    | inr q ↦ elim (test (belowLine line es g)) [ inl p ↦ rw p (taken-mem es gs q b) | inr p ↦ rw p (tail (taken-mem es gs q b)) ]
+  ]
+
   pub taken-ascending : (es gs : List Entry) → Ascending gs → Ascending (taken line es gs)
   unfolding taken
   taken-ascending es [] a = tt

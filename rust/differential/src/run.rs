@@ -114,6 +114,12 @@ impl Run {
         self.tally.count(what, number);
     }
 
+    /// Panics where something does not hold of what a case has met.
+    pub fn holds(&self, what: &str, is: bool) {
+        let (family, seed, case) = (self.family, self.seed, self.case);
+        assert!(is, "family {family}, seed {seed}, case {case}: {what}");
+    }
+
     fn stop(&self, call: &str, got: u32, want: u32, buffers: Option<String>) -> ! {
         panic!(
             "family {}, seed {}, case {}, call {call}:\n\

@@ -2,7 +2,7 @@
 //! that the header names for a call, and each of its answers.
 
 use differential::families::reused::{LOWER_TIES, TIES};
-use differential::families::{clock, handler, purge};
+use differential::families::{clock, handler, overtaking, purge};
 use differential::FAMILIES;
 
 /// How many shares of cases each family runs, from several seeds.
@@ -106,9 +106,11 @@ fn store() {
 #[test]
 fn handler() {
     let met = "REPL at an equal time, then a write";
-    let reach: [Reach; 5] = [
+    let reach: [Reach; 7] = [
         ("handle", &[], &[17, 4, 5, 9, 3, 1, 2, 8, 7, 34, 6]),
         (met, &handler::EQUAL_TIMES, &[]),
+        ("overtaken", &overtaking::OVERTAKEN, &[]),
+        ("passed", &overtaking::PASSED, &[]),
         ("refused below the line", &handler::BELOW, &[]),
         ("local write at an equal stamp", &TIES, &[]),
         ("REPL at an equal stamp", &TIES, &[]),

@@ -161,3 +161,61 @@ fn every_step_raises_the_stamp_above_what_came() {
     }
     assert!(held.skew > 0);
 }
+
+/// A time near the clock's or the reading, or about the end of the window, with
+/// a small count or one at its end.
+fn arriving(rng: &mut Rng, held: Clock, now: u64) -> (u64, u16) {
+    let phys = match rng.below(4) {
+        0 => held.phys,
+        1 => now + 1999 + rng.below(3),
+        2 => now + rng.below(6000),
+        _ => now.saturating_sub(rng.below(50)),
+    };
+    let logical = match rng.below(20) {
+        0 => u16::MAX - rng.below(2) as u16,
+        _ => rng.below(5) as u16,
+    };
+    (phys, logical)
+}
+
+/// Over lists of sends and receives from a new clock, with readings that go
+/// back and calls that are refused.
+#[test]
+fn every_send_passes_what_was_given_or_came_within_the_window() {
+    let mut rng = Rng::new(5);
+    let (mut sends, mut refused, mut above) = (0, 0, 0);
+    for _ in 0..5000 {
+        let (mut held, mut now) = (Clock::fresh(1), rng.below(5000));
+        // The greatest that was given or came within the window, and the
+        // greatest that was far ahead when it came.
+        let (mut met, mut far) = (None, None);
+        for _ in 0..50 {
+            now = now.saturating_sub(rng.below(5) * 450) + rng.below(1800);
+            let is_send = rng.one_in(3);
+            let (phys, logical) = arriving(&mut rng, held, now);
+            let next = if is_send {
+                held.send(now)
+            } else {
+                held.receive(phys, logical, now)
+            };
+            let Ok(next) = next else {
+                refused += 1;
+                continue;
+            };
+            held = next;
+            if is_send {
+                let given = Some((next.phys, next.logical));
+                assert!(met < given, "{met:?} and {given:?}");
+                (sends, above) = (sends + 1, above + u32::from(far > given));
+                met = given;
+            } else if phys <= now + 2000 {
+                met = met.max(Some((phys, logical)));
+            } else {
+                far = far.max(Some((phys, logical)));
+            }
+        }
+    }
+    assert!(sends > 50_000 && refused > 1000, "{sends}, {refused}");
+    // Only what was far ahead may stay above.
+    assert!(above > 1000, "{above}");
+}

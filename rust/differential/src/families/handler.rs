@@ -4,6 +4,7 @@
 use super::clock::{any_clock, count};
 use super::image::{damage, empty, filled, slots, small_entry};
 use super::message::{any_frame, damaged, framed, odd_frame, repl};
+use super::overtaking::overtaking;
 use super::reused::{again, held, tie};
 use crate::make::{any_time, pick, pool_key};
 use crate::run::{cases, Run, Tally};
@@ -19,11 +20,12 @@ pub fn run(seed: u64, count: u64) -> Tally {
 }
 
 fn case(run: &mut Run, rng: &mut Rng) {
-    match rng.below(6) {
+    match rng.below(7) {
         0 => single(run, rng),
         1 => equal_stamps(run, rng),
         2 => about_the_line(run, rng),
         3 => equal_times(run, rng),
+        4 => overtaking(run, rng),
         _ => journal(run, rng),
     }
 }
@@ -39,9 +41,9 @@ fn reply(rng: &mut Rng) -> Vec<u8> {
 }
 
 /// The store, the clock and the reply buffer.
-type State = (Vec<u8>, Vec<u64>, Vec<u8>);
+pub type State = (Vec<u8>, Vec<u64>, Vec<u8>);
 
-fn request(run: &mut Run, state: &mut State, now: u64, frame: &[u8]) -> u32 {
+pub fn request(run: &mut Run, state: &mut State, now: u64, frame: &[u8]) -> u32 {
     same!(run, handle, state, |l| (
         &mut l.0, &mut l.1, now, frame, &mut l.2
     ))
@@ -162,7 +164,7 @@ fn clock_before(rng: &mut Rng, stamp: Stamp) -> Vec<u64> {
 }
 
 /// The local write of an entry's contents.
-fn local(entry: Entry) -> Message {
+pub fn local(entry: Entry) -> Message {
     let Entry {
         key, value, flag, ..
     } = entry;
@@ -183,7 +185,7 @@ fn start_clock(rng: &mut Rng) -> Vec<u64> {
 }
 
 /// The readings go on, stand still, go back, or far ahead.
-fn next_time(rng: &mut Rng, now: u64) -> u64 {
+pub fn next_time(rng: &mut Rng, now: u64) -> u64 {
     match rng.below(12) {
         0 => now.saturating_sub(rng.below(4000)),
         1 => (now + 1500 + rng.below(1000)).min(TIME_END),

@@ -8,6 +8,7 @@ pub mod handler;
 pub mod image;
 pub mod list;
 pub mod message;
+pub mod overtaking;
 pub mod peers;
 pub mod purge;
 pub mod reused;
