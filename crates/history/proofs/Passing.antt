@@ -1,57 +1,42 @@
 -- A local write passes all that its store has had: each write leaves an entry of the key that is
 -- not beaten, or the line above it.
 use Prim.Native.Nat.{ℕ, _^_, _<_, _≤_}
-use native.Mathlib.Omega.{arith}
 use mathlib.Core.Path.{_≡_, refl, sym, _∙_, ap}
-use mathlib.Core.Logic.{_⊎_, inl, inr}
+use mathlib.Core.Logic.{inl, inr}
 use mathlib.Core.Bool.{true, false, not}
-use mathlib.Core.List.{List, [], _∷_, _++_, List·Memᴰ·head as head, List·Memᴰ·not-nil as mem-nil}
-use mathlib.Core.Option.{Option, none, some, Option·some-injective}
-use lib.Dec.{ltb, eqb}
+use mathlib.Core.List.{List, [], _∷_, _++_, List·Memᴰ·head as head}
+use lib.Dec.{ltb}
 use borrow.Author.Tests.{ltb-true, ltb-false, not-true}
 use Rattle.wire.specs.Number.{Bytes}
 use Rattle.wire.proofs.Tests.{test, clash, and-true}
 use Rattle.entry.specs.declared.Stamp.{Stamp}
 use Rattle.entry.specs.Order.{stampBelow}
-use Rattle.entry.specs.Entry.{Entry, beats}
+use Rattle.entry.specs.Entry.{Entry}
 use Rattle.entry.proofs.Order.{stamp-order-by-field}
-use Rattle.entry.proofs.EntryOrder.{beats-irrefl, beats-weak, beats-stamp, beats-asym}
+use Rattle.entry.proofs.EntryOrder.{beats-irrefl, beats-weak, beats-stamp}
 use Rattle.image.specs.Image.{lineOf, entriesOf, sound}
-use Rattle.store.specs.Held.{_∈_, putAll, find, isHeld, better, belowLine}
+use Rattle.store.specs.Held.{_∈_, find, isHeld, belowLine}
 use Rattle.store.specs.Answer.{isRefused}
 use Rattle.store.specs.Offer.{offerAnswer, afterOffer}
 use Rattle.store.specs.Merge.{taken, mergedEntries, mergeAnswer, afterMerge}
 use Rattle.store.specs.Purge.{cleared, purgeAnswer, afterPurge}
 use Rattle.store.specs.Meaning.{Representable}
-use Rattle.store.proofs.HeldLaws.{Ascending, join, find-putAll, find-mem}
+use Rattle.store.proofs.HeldLaws.{find-mem}
 use Rattle.store.proofs.Seeking.{taken-mem, taken-ascending}
 use Rattle.store.proofs.OnSound.{ordered}
 use Rattle.store.proofs.Keeping.{offer-keeps, merge-taken, merge-keeps}
 use Rattle.store.proofs.Purging.{remaining-mem}
 use Rattle.store.proofs.Purges.{purge-leaves}
 use Rattle.node.specs.Handler.{handled}
-use Rattle.node.specs.Meaning.{StillHeld, AfterOffer}
+use Rattle.node.specs.Meaning.{StillHeld}
 use Rattle.node.specs.Overtaking.{Module, Request, result, Makes}
-use Rattle.node.proofs.Audit.{still, Safe, unchanged-safe, kept-safe}
-use Rattle.node.proofs.WholeCalls.{found-or-offered}
+use Rattle.node.proofs.Audit.{still, Safe, put-all-still, put-still, unchanged-safe, kept-safe}
 use Rattle.node.proofs.Overtaking.{brings-still, makes-wrote, wrote-held, wrote-passes}
 use Rattle.history.specs.Returning.{Write, offer, merge, request, purge, afterWrite, afterWrites, CanBeGiven}
 use Rattle.history.specs.Passing.{moduleAfter, Had, holds, takes, offered, merged, AcceptedWritePasses}
-use Rattle.history.proofs.Returning.{KeptOut, purge-found, offer-keeps-out, merge-keeps-out, purge-keeps-out, request-keeps-out}
+use Rattle.history.proofs.Returning.{writes-keep, KeptOut, offer-keeps-out, merge-keeps-out, purge-keeps-out, writes-keep-out, cleared-out}
 
 -- ---- what offers and merges keep
--- an entry that is held is still held after some others were put among them
-put-all-still : (gs es : List Entry) → Ascending gs → Ascending es → (h : Entry) → h ∈ es → StillHeld h (putAll gs es)
-unfolding join better
-put-all-still gs es b a h m = go (find (h .key) gs) refl
-  where
-    go : (o : Option Entry) → find (h .key) gs ≡ o → StillHeld h (putAll gs es)
-    go none q = still h (putAll gs es) h (find-putAll (h .key) gs es b a ∙ rw (q, find-mem es a m)) (beats-irrefl h)
-    go (some g) q = elim (test (beats g h)) [
-      | inl p ↦ still h (putAll gs es) g (find-putAll (h .key) gs es b a ∙ rw (q, find-mem es a m, p)) (beats-asym g h p)
-      | inr p ↦ still h (putAll gs es) h (find-putAll (h .key) gs es b a ∙ rw (q, find-mem es a m, p)) (beats-irrefl h)
-    ]
-
 module _ (s : List ℕ) (h : sound s ≡ true) where
   offer-safe : (e : Entry) → Representable e → Safe s (afterOffer s e)
   unfolding afterOffer
@@ -69,12 +54,9 @@ module _ (s : List ℕ) (h : sound s ≡ true) where
         let q = merge-keeps s g h (m .giver) in
         let es = entriesOf s in
         let gs = taken (lineOf s) es (entriesOf g) in
-        (q .sound, rw (q .holds, n) (put-all-still gs es (taken-ascending (lineOf s) es (entriesOf g) (ordered g (m .giver))) (ordered s h)))
+        let a = taken-ascending (lineOf s) es (entriesOf g) (ordered g (m .giver)) in
+        (q .sound, rw (q .holds, n) (λ e i. put-all-still gs es a (ordered s h) e (inr i)))
   ]
-
-  request-safe : (u : List ℕ) → (u ≡ s) ⊎ AfterOffer s u → Safe s u
-  request-safe u (inl q) = rw q (unchanged-safe s h)
-  request-safe u (inr q) = rw (q .left) (offer-safe (q .entry) (q .fits))
 
 -- ---- what every write keeps
 not-later : (a b : Stamp) → stampBelow b a ≡ false → a .phys ≤ b .phys
@@ -97,42 +79,20 @@ module _ (e : Entry) where
       stands (f .0)
       (record { entry = g .entry; held = g .held; same-key = o .same-key ∙ g .same-key; not-lower = beats-stamp e (g .entry) b; not-beaten = b })
 
-  module _ (s : List ℕ) (h : sound s ≡ true) (o : StillHeld e (entriesOf s)) (line : ℕ) (n : isRefused (purgeAnswer s line) ≡ false) where
-    -- the entry that stood for e was cleared
-    purged-out : cleared line (o .entry) ≡ true → KeptOut e (afterPurge s line)
-    unfolding cleared
-    purged-out c =
-        let g = o .entry in
-        let q = purge-leaves s line n in
-        let l = ltb-true (g .stamp .phys) line (and-true (eqb (g .flag) 1) (ltb (g .stamp .phys) line) c .1) in
-        let late = not-later (e .stamp) (g .stamp) (o .not-lower) in
-        let found = ap (λ (k : List ℕ). find k (entriesOf s)) (o .same-key) ∙ find-mem (entriesOf s) (ordered s h) (o .held) in
-        record {
-          is-sound = q .sound;
-          line = rw (q .line-set) (omega (arith, l, late));
-          above = λ d f.
-              let u = purge-found s line n (e .key) d f in
-              clash c (ap (cleared line) (Option·some-injective g d (sym found ∙ u .0)) ∙ u .1);
-        }
-
-    -- or not
-    purged-stands : cleared line (o .entry) ≡ false → Past (afterPurge s line)
-    purged-stands c =
-        let q = purge-leaves s line n in
-        stands (q .sound)
-        (record {
-          entry = o .entry;
-          held = rw (q .entries) (remaining-mem line (entriesOf s) (o .held) c);
-          same-key = o .same-key;
-          not-lower = o .not-lower;
-          not-beaten = o .not-beaten;
-        })
-
+  -- a purge clears the entry that stands for e, or leaves it
   purge-stands : (s : List ℕ) → sound s ≡ true → StillHeld e (entriesOf s) → (line : ℕ) → Past (afterPurge s line)
   unfolding afterPurge
   purge-stands s h o line = elim (test (isRefused (purgeAnswer s line))) [
     | inl n ↦ rw n (stands h o)
-    | inr n ↦ elim (test (cleared line (o .entry))) [ inl c ↦ kept-out (purged-out s h o line n c) | inr c ↦ purged-stands s h o line n c ]
+    | inr n ↦
+        let g = o .entry in
+        let q = purge-leaves s line n in
+        elim (test (cleared line g)) [
+          | inl c ↦ kept-out (cleared-out s line n e g (o .held) c (o .same-key) (not-later (e .stamp) (g .stamp) (o .not-lower)))
+          | inr c ↦
+              let m : g ∈ entriesOf (afterPurge s line) = rw (q .entries) (remaining-mem line (entriesOf s) (o .held) c) in
+              stands (q .sound) (record { entry = g; held = m; same-key = o .same-key; not-lower = o .not-lower; not-beaten = o .not-beaten })
+        ]
   ]
 
   offer-past : (s : List ℕ) (d : Entry) → Representable d → Past s → Past (afterOffer s d)
@@ -143,23 +103,12 @@ module _ (e : Entry) where
   merge-past s g (stands h o) = safe-past s (afterMerge s g) o (merge-safe s h g)
   merge-past s g (kept-out k) = kept-out (merge-keeps-out e s k g)
 
-  request-past : (s u : List ℕ) → (u ≡ s) ⊎ AfterOffer s u → Past s → Past u
-  request-past s u f (stands h o) = safe-past s u o (request-safe s h u f)
-  request-past s u f (kept-out k) = kept-out (request-keeps-out e s k u f)
-
   purge-past : (s : List ℕ) (line : ℕ) → Past s → Past (afterPurge s line)
   purge-past s line (stands h o) = purge-stands s h o line
   purge-past s line (kept-out k) = kept-out (purge-keeps-out e s k line)
 
   past-after : (ws : List Write) (s : List ℕ) → CanBeGiven ws → Past s → Past (afterWrites s ws)
-  unfolding afterWrites afterWrite
-  past-after [] s g p = p
-  past-after (offer d ∷ ws) s g p = past-after ws (afterOffer s d) (g .1) (offer-past s d (g .0) p)
-  past-after (merge giver ∷ ws) s g p = past-after ws (afterMerge s giver) g (merge-past s giver p)
-  past-after (request c now frame reply ∷ ws) s g p =
-      let u : List ℕ = handled s c now frame reply .store in
-      past-after ws u (g .2) (request-past s u (found-or-offered s c now frame reply (g .0) (g .1)) p)
-  past-after (purge line ∷ ws) s g p = past-after ws (afterPurge s line) g (purge-past s line p)
+  past-after = writes-keep Past offer-past merge-past purge-past
 
 -- ---- lists of writes
 after-all : (ws vs : List Write) (s : List ℕ) → afterWrites s (ws ++ vs) ≡ afterWrites (afterWrites s ws) vs
@@ -179,33 +128,15 @@ unfolding afterPurge
 purge-sound s h line = elim (test (isRefused (purgeAnswer s line))) [ inl n ↦ rw n h | inr n ↦ purge-leaves s line n .sound ]
 
 sound-after : (ws : List Write) (s : List ℕ) → CanBeGiven ws → sound s ≡ true → sound (afterWrites s ws) ≡ true
-unfolding afterWrites afterWrite
-sound-after [] s g h = h
-sound-after (offer d ∷ ws) s g h = sound-after ws (afterOffer s d) (g .1) (offer-safe s h d (g .0) .0)
-sound-after (merge giver ∷ ws) s g h = sound-after ws (afterMerge s giver) g (merge-safe s h giver .0)
-sound-after (request c now frame reply ∷ ws) s g h =
-    let u : List ℕ = handled s c now frame reply .store in
-    sound-after ws u (g .2) (request-safe s h u (found-or-offered s c now frame reply (g .0) (g .1)) .0)
-sound-after (purge line ∷ ws) s g h = sound-after ws (afterPurge s line) g (purge-sound s h line)
+sound-after =
+    writes-keep (λ s. sound s ≡ true) (λ s e r h. offer-safe s h e r .0) (λ s g h. merge-safe s h g .0) (λ s line h. purge-sound s h line)
 
 -- ---- what has come
-put-all-stands : (gs es : List Entry) → Ascending gs → Ascending es → (e : Entry) → e ∈ gs → StillHeld e (putAll gs es)
-unfolding join better
-put-all-stands gs es b a e m = go (find (e .key) es) refl
-  where
-    go : (o : Option Entry) → find (e .key) es ≡ o → StillHeld e (putAll gs es)
-    go none q = still e (putAll gs es) e (find-putAll (e .key) gs es b a ∙ rw (find-mem gs b m, q)) (beats-irrefl e)
-    go (some h) q = elim (test (beats e h)) [
-      | inl p ↦ still e (putAll gs es) e (find-putAll (e .key) gs es b a ∙ rw (find-mem gs b m, q, p)) (beats-irrefl e)
-      | inr p ↦ still e (putAll gs es) h (find-putAll (e .key) gs es b a ∙ rw (find-mem gs b m, q, p)) p
-    ]
-
 module _ (u : List ℕ) (k : sound u ≡ true) (e : Entry) where
   offered-past : Representable e → isRefused (offerAnswer u e) ≡ false → Past e (afterOffer u e)
-  unfolding putAll
   offered-past r n =
       let q = rw n at (offer-keeps u e k r) in
-      stands (q .sound) (rw (q .holds) (put-all-stands (e ∷ []) (entriesOf u) (λ d m. absurd (mem-nil m), tt) (ordered u k) e (head refl)))
+      stands (q .sound) (rw (q .holds) (put-still e (entriesOf u) (ordered u k) e (inl (head refl))))
 
   below-out : belowLine (lineOf u) (entriesOf u) e ≡ true → KeptOut e u
   unfolding belowLine isHeld
@@ -227,7 +158,8 @@ module _ (u : List ℕ) (k : sound u ≡ true) (e : Entry) where
           let q = merge-keeps u g k (t .giver) in
           let es = entriesOf u in
           let gs = taken (lineOf u) es (entriesOf g) in
-          stands (q .sound) (rw (q .holds, n) (put-all-stands gs es (taken-ascending (lineOf u) es (entriesOf g) (ordered g (t .giver))) (ordered u k) e i))
+          let a = taken-ascending (lineOf u) es (entriesOf g) (ordered g (t .giver)) in
+          stands (q .sound) (rw (q .holds, n) (put-all-still gs es a (ordered u k) e (inl i)))
 
 -- ---- what was had is passed
 module _ (s : List ℕ) (h : sound s ≡ true) (e : Entry) where
@@ -244,7 +176,7 @@ module _ (s : List ℕ) (h : sound s ≡ true) (e : Entry) where
       let (a, b) = given-both before (w ∷ later) (rw q at g) in
       let u = afterWrites s before in
       let v : List ℕ = handled u c (r .now) (r .frame) (r .reply) .store in
-      let k = request-safe u (sound-after before s a h) v (found-or-offered u c (r .now) (r .frame) (r .reply) (b .0) (b .1)) .0 in
+      let k = sound-after (w ∷ []) u (b .0, b .1, tt) (sound-after before s a h) in
       rw (q, after-all before (w ∷ later) s) (past-after e later v (b .2) (stands k (brings-still (moduleAfter s before c) r e (b .0) m)))
   had-past writes g (offered before later q n) =
       let u = afterWrites s before in
@@ -257,12 +189,12 @@ module _ (s : List ℕ) (h : sound s ≡ true) (e : Entry) where
 
 past-passes : (m : Module) (r : Request) (e made : Entry) → Bytes (r .frame) → m .clock .node < 2 ^ 8 → Past e (m .store) → Makes m r made
     → made .key ≡ e .key → stampBelow (e .stamp) (made .stamp) ≡ true
+unfolding afterWrites afterWrite
 past-passes m r e made bytes n (stands h o) a q = wrote-passes m r e made o (makes-wrote m r made a) q
 past-passes m r e made bytes n (kept-out k) a q =
-    let u = result m r .store in
-    let f = found-or-offered (m .store) (m .clock) (r .now) (r .frame) (r .reply) bytes n in
-    let held = ap (λ (j : List ℕ). find j (entriesOf u)) (sym q) ∙ wrote-held m r made n (makes-wrote m r made a) in
-    stamp-order-by-field (e .stamp) (made .stamp) .1 (inl (request-keeps-out e (m .store) k u f .above made held))
+    let f = writes-keep-out e (request (m .clock) (r .now) (r .frame) (r .reply) ∷ []) (m .store) (bytes, n, tt) k in
+    let held = ap (λ (j : List ℕ). find j (entriesOf (result m r .store))) (sym q) ∙ wrote-held m r made n (makes-wrote m r made a) in
+    stamp-order-by-field (e .stamp) (made .stamp) .1 (inl (f .above made held))
 
 pub accepted-write-passes : AcceptedWritePasses
 accepted-write-passes s writes c r e made h g bytes n had a q =

@@ -1,9 +1,9 @@
 -- Nothing comes back, proved: each write keeps the line above a removed tombstone's phys, and the
 -- held entry of its key, if there is one, above it too.
-use Prim.Native.Nat.{ℕ, _<_}
+use Prim.Native.Nat.{ℕ, _≤_, _<_}
 use native.Mathlib.Omega.{arith}
 use mathlib.Core.Path.{_≡_, refl, sym, _∙_, ap}
-use mathlib.Core.Logic.{_⊎_, inl, inr}
+use mathlib.Core.Logic.{inl, inr}
 use mathlib.Core.Bool.{true, false}
 use mathlib.Core.List.{List, [], _∷_}
 use mathlib.Core.Option.{Option, none, some, Option·some-injective}
@@ -19,7 +19,7 @@ use Rattle.entry.proofs.Accept.{accepted}
 use Rattle.entry.proofs.Order.{stampBelow-asym, stamp-order-by-field}
 use Rattle.entry.proofs.EntryOrder.{beats-phys}
 use Rattle.image.specs.Image.{lineOf, entriesOf, sound}
-use Rattle.store.specs.Held.{put, putAll, find, isHeld, better, indexOf, belowLine}
+use Rattle.store.specs.Held.{_∈_, put, putAll, find, isHeld, better, indexOf, belowLine}
 use Rattle.store.specs.Answer.{isRefused}
 use Rattle.store.specs.Lookup.{value, deleted, never, refused, findingFor, valueFor, lookupAnswer, valuePart}
 use Rattle.store.specs.Offer.{offerAnswer, afterOffer}
@@ -34,9 +34,8 @@ use Rattle.store.proofs.Looking.{value-stands}
 use Rattle.store.proofs.Purging.{mem-remaining}
 use Rattle.store.proofs.Purges.{purge-taken, purge-leaves}
 use Rattle.node.specs.Handler.{handled}
-use Rattle.node.specs.Meaning.{AfterOffer}
 use Rattle.node.proofs.WholeCalls.{found-or-offered}
-use Rattle.history.specs.Returning.{Write, offer, merge, request, purge, afterWrite, afterWrites, CanBeGiven, Removed, NothingComesBack}
+use Rattle.history.specs.Returning.{Write, offer, merge, request, purge, afterWrite, afterWrites, CanBeGiven, NothingComesBack}
 
 -- ---- which of two entries is held next
 -- an entry found of a key has a phys above p
@@ -60,7 +59,7 @@ line-above p line es e l b n = elim (test (ltb (e .stamp .phys) line)) [
 ]
 
 -- ---- what is found after a purge was found before it, and was not cleared
-pub purge-found : (s : List ℕ) (line : ℕ) → isRefused (purgeAnswer s line) ≡ false → (k : List ℕ) (h : Entry) → find k (entriesOf (afterPurge s line)) ≡ some h
+purge-found : (s : List ℕ) (line : ℕ) → isRefused (purgeAnswer s line) ≡ false → (k : List ℕ) (h : Entry) → find k (entriesOf (afterPurge s line)) ≡ some h
     → (find k (entriesOf s) ≡ some h) × (cleared line h ≡ false)
 purge-found s line n k h f =
     let r = find-some k (remaining line (entriesOf s)) (ap (find k) (sym (purge-leaves s line n .entries)) ∙ f) in
@@ -68,6 +67,21 @@ purge-found s line n k h f =
     (ap (λ (j : List ℕ). find j (entriesOf s)) (r .1) ∙ find-mem (entriesOf s) (ordered s (purge-taken s line n .sound)) (m .0), m .1)
 
 -- ---- what each write keeps
+-- what offers, merges and purges keep, all writes keep: a request leaves the store, or offers
+pub writes-keep : (P : List ℕ → Type 0) → ((s : List ℕ) (e : Entry) → Representable e → P s → P (afterOffer s e))
+    → ((s g : List ℕ) → P s → P (afterMerge s g)) → ((s : List ℕ) (line : ℕ) → P s → P (afterPurge s line))
+    → (ws : List Write) (s : List ℕ) → CanBeGiven ws → P s → P (afterWrites s ws)
+unfolding afterWrites afterWrite
+writes-keep P o m p [] s g h = h
+writes-keep P o m p (offer e ∷ ws) s g h = writes-keep P o m p ws (afterOffer s e) (g .1) (o s e (g .0) h)
+writes-keep P o m p (merge giver ∷ ws) s g h = writes-keep P o m p ws (afterMerge s giver) g (m s giver h)
+writes-keep P o m p (request c now frame reply ∷ ws) s g h =
+    writes-keep P o m p ws (handled s c now frame reply .store) (g .2) (elim (found-or-offered s c now frame reply (g .0) (g .1)) [
+      | inl q ↦ rw q h
+      | inr q ↦ rw (q .left) (o s (q .entry) (q .fits) h)
+    ])
+writes-keep P o m p (purge line ∷ ws) s g h = writes-keep P o m p ws (afterPurge s line) g (p s line h)
+
 pub record KeptOut (t : Entry) (s : List ℕ) : Type 0 where
   pub is-sound : sound s ≡ true
   pub line : t .stamp .phys < lineOf s
@@ -142,33 +156,24 @@ module _ (t : Entry) where
           }
     ]
 
-    pub request-keeps-out : (u : List ℕ) → (u ≡ s) ⊎ AfterOffer s u → KeptOut t u
-    request-keeps-out u (inl q) = rw q k
-    request-keeps-out u (inr q) = rw (q .left) (offer-keeps-out (q .entry) (q .fits))
-
-  writes-keep-out : (s : List ℕ) (ws : List Write) → CanBeGiven ws → KeptOut t s → KeptOut t (afterWrites s ws)
-  unfolding afterWrites afterWrite
-  writes-keep-out s [] g k = k
-  writes-keep-out s (offer e ∷ ws) g k = writes-keep-out (afterOffer s e) ws (g .1) (offer-keeps-out s k e (g .0))
-  writes-keep-out s (merge giver ∷ ws) g k = writes-keep-out (afterMerge s giver) ws g (merge-keeps-out s k giver)
-  writes-keep-out s (request c now frame reply ∷ ws) g k =
-      let u : List ℕ = handled s c now frame reply .store in
-      writes-keep-out u ws (g .2) (request-keeps-out s k u (found-or-offered s c now frame reply (g .0) (g .1)))
-  writes-keep-out s (purge line ∷ ws) g k = writes-keep-out (afterPurge s line) ws g (purge-keeps-out s k line)
+  pub writes-keep-out : (ws : List Write) (s : List ℕ) → CanBeGiven ws → KeptOut t s → KeptOut t (afterWrites s ws)
+  writes-keep-out = writes-keep (KeptOut t) (λ s e r k. offer-keeps-out s k e r) (λ s g k. merge-keeps-out s k g) (λ s line k. purge-keeps-out s k line)
 
 -- ---- the start
-removed-out : (s : List ℕ) (line : ℕ) (t : Entry) → Removed s line t → KeptOut t (afterPurge s line)
+-- a purge that clears an entry keeps out each of its key that is not later
+pub cleared-out : (s : List ℕ) (line : ℕ) → isRefused (purgeAnswer s line) ≡ false → (t g : Entry) → g ∈ entriesOf s → cleared line g ≡ true
+    → t .key ≡ g .key → t .stamp .phys ≤ g .stamp .phys → KeptOut t (afterPurge s line)
 unfolding cleared
-removed-out s line t r =
-    let q = purge-leaves s line (r .accepted) in
-    let h = purge-taken s line (r .accepted) .sound in
+cleared-out s line n t g m c k late =
+    let q = purge-leaves s line n in
+    let l = ltb-true (g .stamp .phys) line (and-true (eqb (g .flag) 1) (ltb (g .stamp .phys) line) c .1) in
+    let held = ap (λ (j : List ℕ). find j (entriesOf s)) k ∙ find-mem (entriesOf s) (ordered s (purge-taken s line n .sound)) m in
     record {
       is-sound = q .sound;
-      line = rw (q .line-set) (ltb-true _ _ (and-true (eqb (t .flag) 1) (ltb (t .stamp .phys) line) (r .gone) .1));
+      line = rw (q .line-set) (omega (arith, l, late));
       above = λ d f.
-          let u = purge-found s line (r .accepted) (t .key) d f in
-          let e : t ≡ d = Option·some-injective t d (sym (find-mem (entriesOf s) (ordered s h) (r .held)) ∙ u .0) in
-          clash (r .gone) (ap (cleared line) e ∙ u .1);
+          let u = purge-found s line n (t .key) d f in
+          clash c (ap (cleared line) (Option·some-injective g d (sym held ∙ u .0)) ∙ u .1);
     }
 
 -- ---- the end
@@ -197,7 +202,7 @@ shown s k at len ok e = elim (test (badKey k)) [
 pub nothing-comes-back : NothingComesBack
 nothing-comes-back s line t r writes g at len e =
     let u = afterWrites (afterPurge s line) writes in
-    let k = writes-keep-out t (afterPurge s line) writes g (removed-out s line t r) in
+    let k = writes-keep-out t writes (afterPurge s line) g (cleared-out s line (r .accepted) t t (r .held) (r .gone) refl (omega arith)) in
     let w = shown u (t .key) at len (k .is-sound) e in
     let h = w .entry in
     let m = find-some (t .key) (entriesOf u) (w .found) in

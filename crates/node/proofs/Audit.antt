@@ -1,14 +1,13 @@
 -- What a refusal and a served request leave.
 use Prim.Native.Nat.{ℕ, _^_, _<_}
 use mathlib.Core.Path.{_≡_, refl, ap, _∙_}
-use mathlib.Core.Logic.{inl, inr}
+use mathlib.Core.Logic.{_⊎_, inl, inr}
 use mathlib.Core.Bool.{true, false}
-use mathlib.Core.List.{List, []}
-use mathlib.Core.Option.{Option, none, some}
+use mathlib.Core.List.{List, [], _∷_, List·Memᴰ·not-nil as mem-nil}
+use mathlib.Core.Option.{Option, none, some, Option·none-ne-some, Option·some-injective}
 use lib.ListN.{length}
 use lib.Dec.{ltb}
 use borrow.Author.Tests.{not-false}
-use Rattle.wire.specs.Order.{sameBytes}
 use Rattle.wire.proofs.Tests.{test}
 use Rattle.wire.proofs.Order.{sameBytes-refl}
 use Rattle.entry.specs.declared.Stamp.{Stamp}
@@ -22,13 +21,13 @@ use Rattle.clock.specs.Clock.{stampOf}
 use Rattle.clock.proofs.Rising.{send-rises}
 use Rattle.frame.specs.Layout.{maxFrame}
 use Rattle.image.specs.Image.{entriesOf, sound}
-use Rattle.store.specs.Held.{_∈_, put, find, better}
+use Rattle.store.specs.Held.{_∈_, put, putAll, find, better}
 use Rattle.store.specs.Answer as answer
 use Rattle.store.specs.Offer.{told}
 use Rattle.store.specs.Overtaken.{overtakenBy, overtaken}
 use Rattle.store.specs.Lookup.{findingFor, valueFor, lookupAnswer, valuePart}
 use Rattle.store.specs.Meaning.{Representable, Keeps}
-use Rattle.store.proofs.HeldLaws.{Ascending, find-put, find-mem, find-some}
+use Rattle.store.proofs.HeldLaws.{Ascending, find-put, join, find-putAll, find-mem, find-some}
 use Rattle.store.proofs.OnSound.{ordered}
 use Rattle.store.proofs.Keeping.{offer-taken, offer-keeps, kept-unchanged}
 use Rattle.node.specs.Handler.{Served, done, refused, gets, serve, serveFrame, settle, handled}
@@ -75,25 +74,49 @@ Safe s s′ = (sound s′ ≡ true) × ((h : Entry) → h ∈ entriesOf s → St
 pub still : (h : Entry) (es : List Entry) (g : Entry) → find (h .key) es ≡ some g → beats h g ≡ false → StillHeld h es
 still h es g f b = let r = find-some (h .key) es f in record { entry = g; held = r .0; same-key = r .1; not-lower = beats-stamp h g b; not-beaten = b }
 
-put-still : (e : Entry) (es : List Entry) → Ascending es → (h : Entry) → h ∈ es → StillHeld h (put e es)
-unfolding better
-put-still e es a h m =
-    let f = find-mem es a m in
-    let p = find-put (h .key) e es a in
-    elim (test (sameBytes (h .key) (e .key))) [
-      | inl s ↦ elim (test (beats e h)) [
-        | inl b ↦ still h (put e es) e (p ∙ rw (s, f, b)) (beats-asym e h b)
-        | inr b ↦ still h (put e es) h (p ∙ rw (s, f, b)) (beats-irrefl h)
-      ]
-      | inr s ↦ still h (put e es) h (p ∙ rw (s, f)) (beats-irrefl h)
-    ]
+-- an entry is found that e does not beat
+record Unbeaten (e : Entry) (o : Option Entry) : Type 0 where
+  entry : Entry
+  found : o ≡ some entry
+  not-beaten : beats e entry ≡ false
+
+-- the better of two entries is beaten by neither
+join-unbeaten : (e : Entry) (o p : Option Entry) → (o ≡ some e) ⊎ (p ≡ some e) → Unbeaten e (join o p)
+unfolding join better
+join-unbeaten e none p (inl q) = absurd (Option·none-ne-some e q)
+join-unbeaten e none p (inr q) = record { entry = e; found = q; not-beaten = beats-irrefl e }
+join-unbeaten e (some g) none (inl q) = record { entry = e; found = q; not-beaten = beats-irrefl e }
+join-unbeaten e (some g) none (inr q) = absurd (Option·none-ne-some e q)
+join-unbeaten e (some g) (some h) m = elim (test (beats g h)) [
+  | inl b ↦ rw b (record { entry = g; found = refl; not-beaten = first b m })
+  | inr b ↦ rw b (record { entry = h; found = refl; not-beaten = second b m })
+]
+  where
+    first : beats g h ≡ true → (some g ≡ some e) ⊎ (some h ≡ some e) → beats e g ≡ false
+    first b (inl q) = rw (Option·some-injective g e q) (beats-irrefl e)
+    first b (inr q) = rw (← Option·some-injective h e q) (beats-asym g h b)
+
+    second : beats g h ≡ false → (some g ≡ some e) ⊎ (some h ≡ some e) → beats e h ≡ false
+    second b (inl q) = rw (← Option·some-injective g e q) b
+    second b (inr q) = rw (Option·some-injective h e q) (beats-irrefl e)
+
+-- after some entries are put among others, each of both is still held
+pub put-all-still : (gs es : List Entry) → Ascending gs → Ascending es → (e : Entry) → (e ∈ gs) ⊎ (e ∈ es) → StillHeld e (putAll gs es)
+put-all-still gs es b a e m =
+    let k = e .key in
+    let u = join-unbeaten e (find k gs) (find k es) (elim m [ inl i ↦ inl (find-mem gs b i) | inr i ↦ inr (find-mem es a i) ]) in
+    still e (putAll gs es) (u .entry) (find-putAll k gs es b a ∙ u .found) (u .not-beaten)
+
+pub put-still : (g : Entry) (es : List Entry) → Ascending es → (e : Entry) → (e ∈ g ∷ []) ⊎ (e ∈ es) → StillHeld e (put g es)
+unfolding putAll
+put-still g es a = put-all-still (g ∷ []) es (λ d m. absurd (mem-nil m), tt) a
 
 module _ (s : List ℕ) (h : sound s ≡ true) where
   pub unchanged-safe : Safe s s
   unchanged-safe = (h, λ g m. still g (entriesOf s) g (find-mem (entriesOf s) (ordered s h) m) (beats-irrefl g))
 
   pub kept-safe : (e : Entry) (s′ : List ℕ) → Keeps s (put e (entriesOf s)) s′ → Safe s s′
-  kept-safe e s′ k = (k .sound, rw (k .holds) (put-still e (entriesOf s) (ordered s h)))
+  kept-safe e s′ k = (k .sound, rw (k .holds) (λ g m. put-still e (entriesOf s) (ordered s h) g (inr m)))
 
 pub never-loses-or-lowers : NeverLosesOrLowers
 never-loses-or-lowers s s′ c d now m x h n i r = elim (deed s c now s′ d m x r) [
