@@ -5,7 +5,7 @@ TOOLS = rust/target/release
 SAMPLE = target/sample
 LIBRARY = target/libsnowpulley.a
 # The crates with functions for C: an archive of each, all in one library.
-PARTS = capi capi_cluster capi_audit capi_curve
+PARTS = capi capi_cluster capi_audit
 # The Rust crates with tests that link the proved library.
 LINKED = -p snowpulley-sys -p snowpulley -p snowpulley-cli -p snowpulley-differential -p snowpulley-bench
 .PHONY: run replay test proved lint reference tools tool expected tails replayed library differential compared fuzz bench performance sizes mutants wrong-answers fmt

@@ -37,10 +37,8 @@ extern "C" {
 /* ---- Results --------------------------------------------------------------------------- */
 
 /* A refusal in the upper 16 bits (0: none) and an answer in the lower 16 bits: a length or a
- * number as the function says, and 0 where it says none. A refusal has the answer 0, with these
- * exceptions: SP_BAD_COUNT, SP_BAD_LENGTH and SP_NOT_ASCENDING have the offset, in bytes, at which
- * a compensation table is bad, and sp_handle's refusal has the length of the ERR frame that it
- * wrote. */
+ * number as the function says, and 0 where it says none. A refusal has the answer 0, except that
+ * sp_handle's is the length of the ERR frame that it wrote. */
 typedef uint32_t sp_result;
 #define SP_IS_REFUSED(r) (SP_REFUSAL(r) != 0)
 #define SP_REFUSAL(r) ((r) >> 16)
@@ -69,9 +67,6 @@ typedef uint32_t sp_result;
 #define SP_LOWER_LINE 33     /* a purge to a line below the one that the store holds */
 #define SP_BELOW_LINE 34     /* an entry below the store's purge line, for a key not held */
 #define SP_UNEQUAL_LINES 35  /* a merge of stores with different purge lines */
-#define SP_BAD_COUNT 40      /* a compensation table with no count, or one not from 1 to 8 */
-#define SP_BAD_LENGTH 41     /* a compensation table of a length that its count does not ask for */
-#define SP_NOT_ASCENDING 42  /* a temperature that is not above the one before */
 
 /* The name of a refusal's number, as "BAD_KEY": for SP_REFUSAL(r), or the number of an ERR frame.
  * "none" for 0, and "unknown" for a number that this header does not have. */
@@ -98,9 +93,6 @@ static inline const char *sp_refusal_name(uint32_t number) {
     case SP_LOWER_LINE: return "LOWER_LINE";
     case SP_BELOW_LINE: return "BELOW_LINE";
     case SP_UNEQUAL_LINES: return "UNEQUAL_LINES";
-    case SP_BAD_COUNT: return "BAD_COUNT";
-    case SP_BAD_LENGTH: return "BAD_LENGTH";
-    case SP_NOT_ASCENDING: return "NOT_ASCENDING";
     default: return "unknown";
     }
 }
@@ -510,53 +502,6 @@ sp_result sp_deliveries(const uint8_t *list, size_t list_len);
  *   SP_NO_ROOM          `reasons` has fewer bytes than the list has deliveries */
 sp_result sp_explain(const uint8_t *list, size_t list_len, const uint8_t *key, size_t key_len,
                      uint8_t *reasons, size_t reasons_len);
-
-/* ---- The compensation table ------------------------------------------------------------ */
-
-/* What a value of the store may hold: a count of points, 1 to 8, in one byte, and the points, of
- * four bytes each. A point is a temperature in tenths of a degree Celsius and the correction at it
- * in parts per million, each a signed number of 16 bits in two's complement, the highest byte
- * first. The temperatures ascend strictly, and no byte is left over. The store itself takes any
- * value: whether one is a table is said here alone.
- *
- * In a call the points are two numbers each, one behind the other: numbers[SP_POINT(i) +
- * SP_POINT_TEMPERATURE] is the temperature of point i, counted from 0. */
-#define SP_CURVE_POINTS_MAX 8
-#define SP_CURVE_NUMBERS_MAX 16
-#define SP_CURVE_BYTES(points) (1 + 4 * (size_t)(points)) /* 33 for eight points */
-#define SP_POINT_NUMBERS 2
-#define SP_POINT_TEMPERATURE 0
-#define SP_POINT_CORRECTION 1
-#define SP_POINT(i) (SP_POINT_NUMBERS * (i))
-
-/* Writes the value of some points; the answer is its length in bytes. Temperatures and corrections
- * may be any of their 16 bits.
- *   SP_BAD_ARGUMENT     an odd number of numbers
- *   SP_BAD_COUNT        no point, or more than eight; the offset is 0
- *   SP_NOT_ASCENDING    a temperature is not above the one before; the offset is where its point
- *                       would start in the value, that of the first such one
- *   SP_NO_ROOM          `out` is shorter than the value; SP_CURVE_BYTES(8) are always enough */
-sp_result sp_curve_write(const int16_t *numbers, size_t numbers_len, uint8_t *out,
-                         size_t out_len);
-
-/* Reads the points of a value, two numbers each; the answer is how many points there are.
- *   SP_BAD_COUNT        the value is empty, or its first byte is not from 1 to 8; the offset is 0
- *   SP_BAD_LENGTH       the value is not of the length that its count asks for; the offset is the
- *                       lesser of the two lengths
- *   SP_NOT_ASCENDING    a temperature is not above the one before; the offset is where the first
- *                       such one starts
- *   SP_NO_ROOM          fewer than two numbers for each point; SP_CURVE_NUMBERS_MAX are always
- *                       enough */
-sp_result sp_curve_read(const uint8_t *value, size_t value_len, int16_t *numbers,
-                        size_t numbers_len);
-
-/* The correction of a value's table at a temperature: up to the first point the first point's, from
- * the last point on the last one's, and between two points the straight line, rounded down, toward
- * minus infinity. The answer has its 16 bits; SP_CORRECTION makes the signed number of them.
- *   SP_BAD_COUNT, SP_BAD_LENGTH, SP_NOT_ASCENDING
- *                       as sp_curve_read */
-sp_result sp_curve_correction(const uint8_t *value, size_t value_len, int16_t temperature);
-#define SP_CORRECTION(r) ((int16_t)((int32_t)(SP_ANSWER(r) ^ 0x8000u) - 0x8000))
 
 #ifdef __cplusplus
 }

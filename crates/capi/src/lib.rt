@@ -1,6 +1,8 @@
 // The C interface of the checksums, the clock, frames, the store and the handler, over numbers and
 // slices of numbers: each function reads its arguments, calls the function that is proved below,
 // and packs the answer.
+#![tactic(auto)]
+
 mod result;
 mod words;
 

@@ -1,5 +1,7 @@
 // The C interface of the auditor's report: each function calls the one that is proved below, and
 // packs the answer.
+#![tactic(auto)]
+
 ghost use Rattle.std.specs.Prelude.{◌≡◌, ◌<◌};
 ghost use Rattle.deliveries.specs.List.{count_of, count_answer};
 ghost use Rattle.explain.specs.Explain.{answer_of, explain_answer, after_explain};

@@ -1,5 +1,7 @@
 // The C interface of the peer table and the ring, over numbers and slices of numbers: each function
 // reads its arguments, calls the function that is proved below, and packs the answer.
+#![tactic(auto)]
+
 mod result;
 mod words;
 

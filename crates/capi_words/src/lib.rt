@@ -1,5 +1,7 @@
 // What the functions for C share: results, numbers that pass in 32 bits, and words put to the front
 // of a lent slice.
+#![tactic(auto)]
+
 ghost use Rattle.std.specs.Prelude.{◌≡◌};
 ghost use Rattle.entry.specs.Refusal.{number};
 ghost use Rattle.frame.specs.Writing.{write_refusal, after_write};

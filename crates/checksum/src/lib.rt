@@ -1,4 +1,6 @@
 // CRC32C, and fmix32, the 32-bit finaliser of MurmurHash3.
+#![tactic(auto)]
+
 mod entries;
 
 ghost use Rattle.std.specs.Prelude.{◌≡◌, ◌+◌, ◌%◌, ◌<◌, ◌≤◌, length, take};

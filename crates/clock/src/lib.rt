@@ -1,4 +1,6 @@
 // The hybrid logical clock, passed by value: a step takes the clock and hands back the next one.
+#![tactic(auto)]
+
 ghost use Rattle.std.specs.Prelude.{◌≡◌, ◌^◌, ◌<◌, max};
 ghost use Rattle.clock.specs.Clock.{fresh_clock, stamp_of, raise, with_skew, send_step, receive_in_range, receive_step};
 ghost use Rattle.clock.specs.Answer.{step_meaning, Sends, Receives};
@@ -13,7 +15,7 @@ const MAX_LOGICAL: u16 = 65_535;
 const MAX_SKEW: u32 = 4_294_967_295;
 
 // (P, L), the own node id, and the count of skew events.
-#[derive(Drop)]
+#[derive(Clone, Copy)]
 pub struct Clock {
     pub phys: u64,
     pub logical: u16,
@@ -22,31 +24,31 @@ pub struct Clock {
 }
 
 // A clock's next value, or why there is none.
-#[derive(Drop)]
+#[derive(Clone, Copy)]
 enum Step {
     Next(Clock),
     Refused(Refusal),
 }
 
-#[derive(Drop)]
+#[derive(Clone, Copy)]
 pub enum SendAnswer {
     Stamped(Stamp),
     Refused(Refusal),
 }
 
-#[derive(Drop)]
+#[derive(Clone, Copy)]
 pub struct Sent {
     pub clock: Clock,
     pub answer: SendAnswer,
 }
 
-#[derive(Drop)]
+#[derive(Clone, Copy)]
 pub enum ReceiveAnswer {
     Received,
     Refused(Refusal),
 }
 
-#[derive(Drop)]
+#[derive(Clone, Copy)]
 pub struct Receipt {
     pub clock: Clock,
     pub answer: ReceiveAnswer,

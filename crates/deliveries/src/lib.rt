@@ -1,5 +1,7 @@
 // A list of deliveries: the REPL frames that a module received, one behind the other. This cuts the
 // first one off, and counts them.
+#![tactic(auto)]
+
 ghost use Rattle.std.specs.Prelude.{◌≡◌, ◌≤◌, length};
 ghost use Rattle.deliveries.specs.Cut.{first_length, cut_in, cut_answer, cut_unchecked};
 ghost use Rattle.deliveries.specs.List.{count_of, count_answer};
@@ -12,7 +14,7 @@ use wire::get_be;
 const MAX_DELIVERIES: usize = 1000;
 
 // The delivery at the front of a list.
-#[derive(Drop)]
+#[derive(Clone, Copy)]
 pub enum Cut {
     // The list does not begin with one.
     Nothing,
@@ -29,7 +31,7 @@ pub enum Cut {
 }
 
 // How many deliveries a list has, or why it is refused.
-#[derive(Drop)]
+#[derive(Clone, Copy)]
 pub enum Counted {
     Deliveries(usize),
     Refused(Refusal),

@@ -30,9 +30,6 @@ number-range refusal.BadArgument = omega arith
 number-range refusal.LowerLine = omega arith
 number-range refusal.BelowLine = omega arith
 number-range refusal.UnequalLines = omega arith
-number-range refusal.BadCount = omega arith
-number-range refusal.BadLength = omega arith
-number-range refusal.NotAscending = omega arith
 
 pub number_not_zero : (r : Refusal) → number r ≡ 0 → ⊥
 number_not_zero r e = omega (arith, (number-range r).0)

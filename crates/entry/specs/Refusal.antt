@@ -24,13 +24,10 @@ number refusal.BadArgument = 17
 number refusal.LowerLine = 33
 number refusal.BelowLine = 34
 number refusal.UnequalLines = 35
-number refusal.BadCount = 40
-number refusal.BadLength = 41
-number refusal.NotAscending = 42
 
 -- the highest of them (R7)
 abbrev pub last_number : ℕ
-last_number = 42
+last_number = 35
 
 -- a number that a refusal has: there are gaps between them (R7, R168)
 abbrev pub Numbered : ℕ → Type 0

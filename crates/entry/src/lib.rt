@@ -1,5 +1,7 @@
 // What every part of the store shares: the refusal numbers, the limits, the key rule, stamps, when
 // an entry is acceptable, and which of two entries of a key wins.
+#![tactic(auto)]
+
 ghost use Rattle.std.specs.Prelude.{◌≡◌, not, List, ℕ, max};
 ghost use Rattle.entry.specs.Refusal.{number};
 ghost use Rattle.entry.specs.Key.{reserved, bad_key};
@@ -21,7 +23,7 @@ pub const ACTIVE: u8 = 0;
 pub const TOMBSTONE: u8 = 1;
 
 // Why a call is refused: a case for each number, in the order of the numbers.
-#[derive(Drop)]
+#[derive(Clone, Copy)]
 pub enum Refusal {
     BadKey,
     ValueTooLarge,
@@ -47,10 +49,6 @@ pub enum Refusal {
     BelowLine,
     // a merge of stores with unequal lines
     UnequalLines,
-    // a compensation table: its count, its length, or the order of its temperatures
-    BadCount,
-    BadLength,
-    NotAscending,
 }
 
 impl Refusal {
@@ -78,15 +76,12 @@ impl Refusal {
             Refusal::LowerLine => 33,
             Refusal::BelowLine => 34,
             Refusal::UnequalLines => 35,
-            Refusal::BadCount => 40,
-            Refusal::BadLength => 41,
-            Refusal::NotAscending => 42,
         }
     }
 }
 
 // When and where an entry was written: a hybrid logical time and the node.
-#[derive(Drop)]
+#[derive(Clone, Copy)]
 pub struct Stamp {
     pub phys: u64,
     pub logical: u16,
@@ -134,7 +129,7 @@ pub fn later(a: u64, b: u64) -> u64
 }
 
 // Whether an entry passes the checks that an offer makes of the entry alone.
-#[derive(Drop)]
+#[derive(Clone, Copy)]
 pub enum Acceptance {
     Acceptable,
     Refused(Refusal),

@@ -1,4 +1,6 @@
 // The auditor's report: which of a key's deliveries is in force, and why each other one is not.
+#![tactic(auto)]
+
 mod walk;
 
 ghost use Rattle.std.specs.Prelude.{◌≡◌};
@@ -9,7 +11,7 @@ use entry::{Refusal, is_acceptable_key};
 use walk::{find_winner, write_reasons};
 
 // What the report says. Places in the list count from 0.
-#[derive(Drop)]
+#[derive(Clone, Copy)]
 pub enum Explained {
     // The place of the winning delivery.
     Winner(usize),

@@ -26,7 +26,7 @@ const LOWER_CONTENT: u8 = 6;
 
 // What a walk sees of a delivery: whether it is of the key, where its value stands in the list, its
 // flag and stamp, and where the next one begins.
-#[derive(Drop)]
+#[derive(Clone, Copy)]
 pub(crate) struct Seen {
     pub(crate) matches: bool,
     pub(crate) start: usize,
@@ -37,7 +37,7 @@ pub(crate) struct Seen {
 }
 
 // The best delivery so far, if one of the key has come: its place, and what was seen of it.
-#[derive(Drop)]
+#[derive(Clone, Copy)]
 pub(crate) struct Best {
     pub(crate) found: bool,
     pub(crate) place: usize,

@@ -3,7 +3,7 @@ use entry::{Refusal, Stamp};
 
 // A message as it stands in its frame: a key or a value is given by its offset in the frame and
 // its length.
-#[derive(Drop)]
+#[derive(Clone, Copy)]
 pub enum Message {
     Put {
         key_at: usize,
@@ -38,14 +38,14 @@ pub enum Message {
 }
 
 // What a frame says, or why it is refused.
-#[derive(Drop)]
+#[derive(Clone, Copy)]
 pub enum Read {
     Message(Message),
     Refused(Refusal),
 }
 
 // How many bytes were written, or why none was.
-#[derive(Drop)]
+#[derive(Clone, Copy)]
 pub enum Wrote {
     Bytes(usize),
     Refused(Refusal),

@@ -1,4 +1,6 @@
 // Frames: LEN(2) TYPE(1) FLAGS(1) BODY CRC32C(4). A reader for any bytes, and a writer for each message.
+#![tactic(auto)]
+
 mod answer;
 mod reading;
 mod writing;

@@ -1,5 +1,7 @@
 // The store image: its layout, its header and slots read and written, and whether it is sound. Each
 // public function is total.
+#![tactic(auto)]
+
 mod field;
 pub mod layout;
 

@@ -1,4 +1,6 @@
 // A journal is a run of records, each a time (6 bytes) and a frame. This cuts the first record from the bytes at hand.
+#![tactic(auto)]
+
 ghost use Rattle.std.specs.Prelude.{◌≡◌};
 ghost use Rattle.journal.specs.Journal.{meaning, piece_of};
 
@@ -9,7 +11,7 @@ use wire::get_be;
 const MAX_LEN: usize = MAX_FRAME - 2;
 
 // What stands at the front of some bytes of a journal.
-#[derive(Drop)]
+#[derive(Clone, Copy)]
 pub enum Cut {
     // Nothing: a clean end, if no more bytes follow.
     End,

@@ -1,4 +1,6 @@
 // The request handler: one frame in, the store and the clock moved on, one frame out.
+#![tactic(auto)]
+
 mod request;
 
 ghost use Rattle.std.specs.Prelude.{◌≡◌, leb};
@@ -15,14 +17,14 @@ use request::{refuse, serve, why};
 const FIRST_REPLY: u8 = 16;
 
 // Whether a request was served. A refusal's ERR frame is in the reply, but for NoRoom.
-#[derive(Drop)]
+#[derive(Clone, Copy)]
 pub enum Reply {
     Done,
     Refused(Refusal),
 }
 
 // The next clock, how many bytes of the reply buffer hold the reply, and whether the request was served.
-#[derive(Drop)]
+#[derive(Clone, Copy)]
 pub struct Handled {
     pub clock: Clock,
     pub written: usize,

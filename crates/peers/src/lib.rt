@@ -1,5 +1,7 @@
 // The peer table: each peer's address, state and when it was last seen. A table goes in by value
 // and each event hands it back changed.
+#![tactic(auto)]
+
 ghost use Rattle.std.specs.Prelude.{◌≡◌, ◌+◌, ◌<◌, ◌≤◌, length, drop};
 ghost use Rattle.entry.specs.Refusal.{number};
 ghost use Rattle.peers.specs.Row.{age_at, in_range, new_row, heard_row, reported_row, tick_row};
@@ -24,7 +26,7 @@ pub const SUSPECT_AGE: u64 = 5_000;
 pub const DOWN_AGE: u64 = 15_000;
 
 // What is held of a peer. Any state may be given, so it is a number.
-#[derive(Drop)]
+#[derive(Clone, Copy)]
 pub struct Row {
     pub id: u8,
     pub address: u32,
@@ -35,28 +37,28 @@ pub struct Row {
 }
 
 // The rows below `count` are the table's; the own row is the first.
-#[derive(Drop)]
+#[derive(Clone, Copy)]
 pub struct PeerTable {
     pub rows: [Row; 10],
     pub count: u8,
 }
 
 // Whether an event was taken.
-#[derive(Drop)]
+#[derive(Clone, Copy)]
 pub enum PeerAnswer {
     Done,
     Refused(Refusal),
 }
 
 // The table after an event, and the event's answer.
-#[derive(Drop)]
+#[derive(Clone, Copy)]
 pub struct Changed {
     pub table: PeerTable,
     pub answer: PeerAnswer,
 }
 
 // Which peers the owner walk may take: every peer with a row, or those not DOWN.
-#[derive(Drop)]
+#[derive(Clone, Copy)]
 pub enum Admission {
     Home,
     Standing,

@@ -1,13 +1,8 @@
 -- Every point of the table holds, by computation.
 use mathlib.Core.Path.{refl}
-use Rattle.wire.specs.Number.{be, num_from, num}
-use Rattle.wire.specs.Fill.{zeros, field}
+use Rattle.wire.specs.Number.{be}
+use Rattle.wire.specs.Fill.{zeros}
 use Rattle.clock.specs.Clock.{raise, with_skew, send_step, receive_in_range, receive_step}
-use Rattle.compensation.specs.Signed.{signed, floor_div}
-use Rattle.compensation.specs.Table.{point_at, points_from, points_in}
-use Rattle.compensation.specs.Checks.{then, count_check, first_byte_check, length_check, order_from, order_check, value_check}
-use Rattle.compensation.specs.Correction.{line, correction_from, correction_at}
-use Rattle.compensation.specs.Answers.{answered, correction_answer}
 use Rattle.peers.specs.Row.{age_at, in_range, tick_state, tick_row}
 use Rattle.peers.specs.Table.{has_row, held_state, on_others, distinct, own_alive, rows_in_range, sound_table}
 use Rattle.peers.specs.Admitted.{admits_among, admits}
@@ -23,9 +18,7 @@ use Rattle.points.specs.Points.{AllPointsHold}
 pub all_points_hold : AllPointsHold
 unfolding raise with_skew send_step receive_in_range receive_step age_at in_range tick_state tick_row has_row held_state on_others distinct own_alive rows_in_range sound_table
     unless_refused with_rows tick_answer after_tick admits_among admits elem filter firsts count_below ascending places_in_range sound_ring from before around met
-    owners_of admitted_with_place bad_request owners_answer owners_output be zeros header slots image create_refusal fresh_store after_create num_from num field
-    signed floor_div point_at points_from points_in then count_check first_byte_check length_check order_from order_check value_check line correction_from correction_at
-    answered correction_answer
+    owners_of admitted_with_place bad_request owners_answer owners_output be zeros header slots image create_refusal fresh_store after_create
 all_points_hold = (
   refl,
   (
@@ -50,7 +43,7 @@ all_points_hold = (
                       (refl, refl),
                       (
                         (refl, refl),
-                        ((refl, refl), ((refl, refl), ((refl, refl), ((refl, refl), ((refl, refl), (refl, tt)))))),
+                        ((refl, refl), ((refl, refl), ((refl, refl), ((refl, refl), ((refl, refl), tt))))),
                       ),
                     ),
                   ),

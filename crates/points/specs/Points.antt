@@ -1,8 +1,7 @@
 -- The points that are proved: a single table, and the statement that every point of it holds (R210).
-use Rattle.std.specs.Prelude.{ℕ, ◌≡◌, List, [], ◌∷◌, ℤ, negsuc, replicate}
+use Rattle.std.specs.Prelude.{ℕ, ◌≡◌, List, [], ◌∷◌, replicate}
 use Rattle.clock.specs.declared.Clock.{Clock}
 use Rattle.clock.specs.Clock.{next, send_step, receive_step}
-use Rattle.compensation.specs.Answers.{given, correction_answer}
 use Rattle.peers.specs.declared.Row.{Row}
 use Rattle.peers.specs.declared.PeerTable.{PeerTable}
 use Rattle.peers.specs.declared.Admission.{Admission}
@@ -38,7 +37,7 @@ places = place_number 100 1 0 ∷ place_number 200 2 0 ∷ place_number 200 3 0 
 abbrev pub lent : ℕ → List ℕ
 lent n = replicate n 255
 
-pub data Point : Type 0 where  -- (R210, R212 to R216, R218 to R223, R269, R292)
+pub data Point : Type 0 where  -- (R210, R212 to R216, R218 to R223, R269)
   -- a clock that sends at `now`, and the clock after it (R212 to R214)
   send : (c : Clock) (now : ℕ) (after : Clock) → Point
   -- a clock that receives (p, l) at `now`, and the clock after it (R215, R216, R269)
@@ -49,8 +48,6 @@ pub data Point : Type 0 where  -- (R210, R212 to R216, R218 to R223, R269, R292)
   tick : (seen now state : ℕ) → Point
   -- a number of slots, and the bytes of the new store (R223)
   fresh : (slots : ℕ) (bytes : List ℕ) → Point
-  -- a value, a temperature, and the correction at it (R292)
-  ask : (value : List ℕ) (t c : ℤ) → Point
 
 abbrev pub Holds : Point → Type 0
 Holds (send c now after) = send_step c now ≡ next after
@@ -58,13 +55,12 @@ Holds (receive c p l now after) = receive_step c p l now ≡ next after
 Holds (walk peers a x r answer after) = (owners_answer places peers a r (lent 3) ≡ answer) × (owners_output places peers x a r (lent 3) ≡ after)
 Holds (tick seen now state) = (tick_answer now (watched seen) ≡ 0) × (held_state 2 (rows_of (after_tick now (watched seen))) ≡ state)
 Holds (fresh slots bytes) = (create_refusal (lent 1208) slots ≡ 0) × (after_create (lent 1208) slots ≡ bytes)
-Holds (ask value t c) = correction_answer value t ≡ given c
 
 abbrev pub AllHold : List Point → Type 0
 AllHold [] = Unit
 AllHold (p ∷ ps) = Holds p × AllHold ps
 
-abbrev pub points : List Point  -- (R210, R212 to R216, R218 to R223, R269, R292)
+abbrev pub points : List Point  -- (R210, R212 to R216, R218 to R223, R269)
 points =
     send (clock_at 1000 5 0) 1000 (clock_at 1000 6 0)  -- (R212)
     ∷ send (clock_at 1000 5 0) 1001 (clock_at 1001 0 0)  -- (R213)
@@ -85,8 +81,6 @@ points =
     ∷ tick 0 5000 1  -- (R222)
     ∷ tick 0 15000 2  -- (R222)
     ∷ fresh 2 (0 ∷ 2 ∷ 0 ∷ 0 ∷ 2 ∷ 84 ∷ 0 ∷ 16 ∷ replicate 1200 0)  -- (R223)
-    -- the points (−2, 0) and (0, −3) at −1
-    ∷ ask (2 ∷ 255 ∷ 254 ∷ 0 ∷ 0 ∷ 0 ∷ 0 ∷ 255 ∷ 253 ∷ []) (negsuc 0) (negsuc 1)  -- (R292)
     ∷ []
 
 abbrev pub AllPointsHold : Type 0

@@ -1,4 +1,6 @@
 // Runs the points that are not proved, and writes a line for each to standard output.
+#![tactic(auto)]
+
 use checksum::{crc32c, fmix32};
 use clock::{Clock, SendAnswer};
 use entry::Refusal;

@@ -1,6 +1,8 @@
 // Replays a journal from standard input against one store, and writes each reply frame to standard
 // output.
 // The library answers the records: here bytes are only read, moved and written.
+#![tactic(auto)]
+
 ghost use Rattle.std.specs.Prelude.{◌+◌, ◌-◌, ◌≤◌, ◌<◌, ◌≡◌, true, ◌++◌, length, take, drop, eqb};
 ghost use Rattle.replayer.specs.Replies.{start};
 ghost use Rattle.replay.specs.State.{Fits, Refilled, past_call, CanGoOn, GoesOn, TurnIsOneCall};
@@ -11,7 +13,7 @@ use libc::{STDIN_FILENO, STDOUT_FILENO};
 use replayer::{Next, Progress, advance};
 
 // Input bytes from `at` to `end` are not yet taken. `ended` says that no more follow.
-#[derive(Drop)]
+#[derive(Clone, Copy)]
 struct State {
     clock: Clock,
     at: usize,

@@ -1,6 +1,8 @@
 // Answers the records of a journal over slices: input that has come is taken, and output that is to
 // be written is filled.
 // What is left to a program is to read and to write.
+#![tactic(auto)]
+
 ghost use Rattle.std.specs.Prelude.{◌≡◌, ◌&&◌, ◌++◌, ◌+◌, ◌-◌, ◌≤◌, leb, length, take, drop};
 ghost use Rattle.frame.specs.Message.{err};
 ghost use Rattle.frame.specs.Layout.{max_frame, frame_of};
@@ -20,7 +22,7 @@ const BAD_FRAME: u8 = 3;
 const ERR_BYTES: usize = 9;
 
 // What the caller is to do, once it has written the output.
-#[derive(Drop)]
+#[derive(Clone, Copy)]
 pub enum Next {
     // Read more input: no whole record is left.
     Read,
@@ -32,7 +34,7 @@ pub enum Next {
 
 // The next clock, how many bytes of the input were taken, how many of the output were filled, and
 // what is to be done.
-#[derive(Drop)]
+#[derive(Clone, Copy)]
 pub struct Progress {
     pub clock: Clock,
     pub taken: usize,

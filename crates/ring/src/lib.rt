@@ -1,4 +1,6 @@
 // The hash ring: tokens, key positions, ring building, soundness, and the owner walk.
+#![tactic(auto)]
+
 mod building;
 mod checking;
 mod merge_sort;
@@ -27,21 +29,21 @@ pub const MAX_PLACES: usize = 640;
 pub const MAX_OWNERS: u8 = 3;
 
 // A key's position on the ring.
-#[derive(Drop)]
+#[derive(Clone, Copy)]
 pub enum KeyPosition {
     At(u32),
     Refused(Refusal),
 }
 
 // How many places were built.
-#[derive(Drop)]
+#[derive(Clone, Copy)]
 pub enum Built {
     Places(usize),
     Refused(Refusal),
 }
 
 // How many owners were found.
-#[derive(Drop)]
+#[derive(Clone, Copy)]
 pub enum Ownership {
     Found(u8),
     Refused(Refusal),

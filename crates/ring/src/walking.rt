@@ -8,7 +8,7 @@ use crate::MAX_OWNERS;
 use peers::{Flags, PeerTable};
 
 // The nodes that a walk has taken: the first `count` of `nodes`.
-#[derive(Drop)]
+#[derive(Clone, Copy)]
 pub(crate) struct Taken {
     pub(crate) nodes: [u8; 3],
     pub(crate) count: usize,

@@ -1,5 +1,7 @@
 // The entry store: a new store, looking a key up, offering an entry, merging one store into another,
 // and purging one of old tombstones.
+#![tactic(auto)]
+
 mod clear;
 mod write;
 
@@ -30,14 +32,14 @@ use wire::{Comparison, compare, put_be};
 use write::{open_slot, write_entry, write_slot};
 
 // What became of a buffer that was to be a new store.
-#[derive(Drop)]
+#[derive(Clone, Copy)]
 pub enum Created {
     Fresh,
     Refused(Refusal),
 }
 
 // What a store says of a key.
-#[derive(Drop)]
+#[derive(Clone, Copy)]
 pub enum Looked {
     // Its value stands at byte `at` of the store, and has `len` bytes.
     Value { at: usize, len: usize },
@@ -47,7 +49,7 @@ pub enum Looked {
 }
 
 // What a store says of the entry at a place in key order.
-#[derive(Drop)]
+#[derive(Clone, Copy)]
 pub enum Listed {
     // Its key and its value stand at these bytes of the store.
     Entry {
@@ -62,7 +64,7 @@ pub enum Listed {
 }
 
 // What became of an entry that was offered.
-#[derive(Drop)]
+#[derive(Clone, Copy)]
 pub enum Offered {
     Stored,
     Replaced,
@@ -71,21 +73,21 @@ pub enum Offered {
 }
 
 // What became of a merge. `Done` has how many of the giver's entries were passed over.
-#[derive(Drop)]
+#[derive(Clone, Copy)]
 pub enum Merged {
     Done(usize),
     Refused(Refusal),
 }
 
 // What became of a purge. `Done` has how many entries were removed.
-#[derive(Drop)]
+#[derive(Clone, Copy)]
 pub enum Purged {
     Done(usize),
     Refused(Refusal),
 }
 
 // Where a key stands among those held, and whether it is held.
-#[derive(Drop)]
+#[derive(Clone, Copy)]
 struct Place {
     at: usize,
     held: bool,
@@ -93,14 +95,14 @@ struct Place {
 
 // Of a giver's entries with a key that is new to the receiver, how many are taken, and how many are
 // passed over.
-#[derive(Drop)]
+#[derive(Clone, Copy)]
 struct Counts {
     new: usize,
     passed: usize,
 }
 
 // Where an entry goes in a store.
-#[derive(Drop)]
+#[derive(Clone, Copy)]
 enum Placement {
     // Into a new slot before this one.
     Insert(usize),

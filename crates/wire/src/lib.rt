@@ -1,12 +1,14 @@
 // Bytes as frames and store images use them: big-endian numbers, zero fill, and byte strings
 // compared. Each function is total: it answers something defined for any slices.
+#![tactic(auto)]
+
 ghost use Rattle.std.specs.Prelude.{◌≡◌, ◌≤◌, length, get_or, take};
 ghost use Rattle.wire.specs.Number.{be, num};
 ghost use Rattle.wire.specs.Fill.{zeros, padded};
 ghost use Rattle.wire.specs.Order.{same_bytes, comparison, starts_with};
 
 // Where one byte string stands against another.
-#[derive(Drop)]
+#[derive(Clone, Copy)]
 pub enum Comparison {
     Below,
     Same,

@@ -1,14 +1,13 @@
 //! Single calls.
 
 use crate::inputs::{
-    curve, deleted, deliveries, different_deliveries, greater, key, last_greater, peers, store,
-    value, ASKED, DELIVERED, HELD, LINE, NEW, OLD, SALT,
+    deleted, deliveries, different_deliveries, greater, key, last_greater, peers, store, value,
+    DELIVERED, HELD, LINE, NEW, OLD, SALT,
 };
 use crate::measure::{by, medians, on_copies, steady, timer_cost, Subject, ROUNDS};
 use crate::table::{self, nanoseconds, Row};
 use reference::checksum::{crc32c_cpu, crc32c_table, crc32c_wide, Way};
 use reference::clock::Clock;
-use reference::curve as reference_curve;
 use reference::frame::{Message, FRAME_MAX};
 use reference::peers::Admission;
 use reference::ring::PLACES_MAX;
@@ -16,7 +15,6 @@ use reference::stamp::Stamp;
 use reference::{explain, node, ring, store as reference_store};
 use samples::script::{framed, put_message, repl_message};
 use snowpulley::audit::DELIVERIES_MAX;
-use snowpulley::raw;
 use snowpulley::store::Found;
 use std::hint::black_box;
 
@@ -24,16 +22,7 @@ const WAYS: [Way; 3] = [Way::Table, Way::Wide, Way::Cpu];
 
 /// The times of all calls, as Markdown.
 pub fn tables() -> String {
-    let rows = fastest(|| {
-        let rows = [
-            handler_rows(),
-            store_rows(),
-            ring_rows(),
-            explain_rows(),
-            curve_rows(),
-        ];
-        rows.concat()
-    });
+    let rows = fastest(|| [handler_rows(), store_rows(), ring_rows(), explain_rows()].concat());
     let times = table::markdown("ns", &rows, |_, time| nanoseconds(time));
     format!(
         "Medians of {ROUNDS} rounds in which the subjects take short turns. Each row is from the\n\
@@ -72,16 +61,6 @@ fn row<'a>(name: String, proved: Subject<'a>, reference: impl Fn() -> Subject<'a
         name,
         proved: times[0],
         reference: [Some(times[1]), Some(times[2]), Some(times[3])],
-    }
-}
-
-/// The row of a call that takes no checksum: the reference has one time only.
-fn row_without_checksum<'a>(name: String, proved: Subject<'a>, reference: Subject<'a>) -> Row {
-    let times = medians(&mut [proved, reference]);
-    Row {
-        name,
-        proved: times[0],
-        reference: [Some(times[1]), None, None],
     }
 }
 
@@ -291,6 +270,7 @@ fn build_row() -> Row {
     })
 }
 
+/// The walk takes no checksum, so the reference has one time only.
 fn owners_row() -> Row {
     let (ids, table, proved_table) = peers();
     let mut places = [0; PLACES_MAX];
@@ -299,24 +279,30 @@ fn owners_row() -> Row {
     let mut position = 0u32;
     let mut other = 0u32;
     let (mut out, mut other_out) = ([0; 3], [0; 3]);
-    let proved = steady(|| {
-        position = position.wrapping_add(0x1234_5677);
-        let standing = snowpulley::ring::Admission::Standing;
-        snowpulley::ring::owners(&places, &proved_table, position, standing, 3, &mut out)
-    });
-    let reference = steady(|| {
-        other = other.wrapping_add(0x1234_5677);
-        ring::owners(
-            &places,
-            &table,
-            Admission::Standing,
-            other,
-            3,
-            &mut other_out,
-        )
-    });
-    let name = "owner walk, 640 places, 3 owners".to_string();
-    row_without_checksum(name, proved, reference)
+    let mut subjects = vec![
+        steady(|| {
+            position = position.wrapping_add(0x1234_5677);
+            let standing = snowpulley::ring::Admission::Standing;
+            snowpulley::ring::owners(&places, &proved_table, position, standing, 3, &mut out)
+        }),
+        steady(|| {
+            other = other.wrapping_add(0x1234_5677);
+            ring::owners(
+                &places,
+                &table,
+                Admission::Standing,
+                other,
+                3,
+                &mut other_out,
+            )
+        }),
+    ];
+    let times = medians(&mut subjects);
+    Row {
+        name: "owner walk, 640 places, 3 owners".to_string(),
+        proved: times[0],
+        reference: [Some(times[1]), None, None],
+    }
 }
 
 fn explain_rows() -> Vec<Row> {
@@ -340,45 +326,4 @@ fn explain_row(what: &str, list: &[u8]) -> Row {
         let mut reasons = [0; DELIVERIES_MAX];
         steady(move || explain::explain(black_box(list), &DELIVERED, &mut reasons))
     })
-}
-
-fn curve_rows() -> Vec<Row> {
-    vec![curve_write_row(), curve_read_row(), correction_row()]
-}
-
-fn curve_write_row() -> Row {
-    let (points, numbers, value) = curve();
-    let (mut out, mut other) = (vec![0; value.len()], vec![0; value.len()]);
-    assert_eq!(raw::curve_write(&numbers, &mut out) as usize, value.len());
-    assert!(out == value, "the values differ");
-    let name = format!("curve write, {} points", points.len());
-    let proved = steady(|| raw::curve_write(black_box(&numbers), &mut out));
-    let reference = steady(|| reference_curve::write(black_box(&points), &mut other));
-    row_without_checksum(name, proved, reference)
-}
-
-fn curve_read_row() -> Row {
-    let (points, numbers, value) = curve();
-    let mut out = vec![0; numbers.len()];
-    assert_eq!(raw::curve_read(&value, &mut out) as usize, points.len());
-    assert!(out == numbers, "the points differ");
-    assert_eq!(reference_curve::read(&value).as_ref(), Ok(&points));
-    let name = format!("curve read, {} points", points.len());
-    let proved = steady(|| raw::curve_read(black_box(&value), &mut out));
-    let reference = steady(|| reference_curve::read(black_box(&value)));
-    row_without_checksum(name, proved, reference)
-}
-
-fn correction_row() -> Row {
-    let (points, _, value) = curve();
-    let proved = snowpulley::curve::correction(&value, ASKED).expect("a right table");
-    let reference = reference_curve::correction(&value, ASKED);
-    assert_eq!(reference, Ok(proved));
-    let name = format!(
-        "curve correction, {} points, between the last two",
-        points.len()
-    );
-    let proved = steady(|| raw::curve_correction(black_box(&value), ASKED));
-    let reference = steady(|| reference_curve::correction(black_box(&value), ASKED));
-    row_without_checksum(name, proved, reference)
 }

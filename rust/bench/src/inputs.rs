@@ -1,6 +1,5 @@
-//! The stores, frames, rings and tables that the calls are given.
+//! The stores, frames and rings that the calls are given.
 
-use reference::curve::{self, value_length, Point, POINTS_MAX};
 use reference::peers::PeerTable;
 use reference::stamp::Stamp;
 use reference::store::{create, image_length, offer};
@@ -105,25 +104,3 @@ pub fn peers() -> (Vec<u8>, PeerTable, snowpulley::PeerTable) {
     }
     (ids, reference, proved)
 }
-
-/// The longest compensation table, from -20.0 to 50.0 degrees: its points, the
-/// numbers that a call has of them, and its value.
-pub fn curve() -> (Vec<Point>, Vec<i16>, Vec<u8>) {
-    let corrections: [i16; POINTS_MAX] = [-310, -205, -118, -47, 0, 24, 31, 18];
-    let temperatures = (-200..).step_by(100);
-    let points: Vec<Point> = temperatures
-        .zip(corrections)
-        .map(|(temperature, correction)| Point {
-            temperature,
-            correction,
-        })
-        .collect();
-    let numbers = points.iter().flat_map(|p| [p.temperature, p.correction]);
-    let mut value = vec![0; value_length(POINTS_MAX)];
-    curve::write(&points, &mut value).expect("a right table");
-    (points.clone(), numbers.collect(), value)
-}
-
-/// A temperature between the last two points of that table, where the line is
-/// rounded.
-pub const ASKED: i16 = 437;

@@ -5,8 +5,8 @@
 #![allow(unsafe_code)]
 
 use crate::inputs::{
-    curve, deleted, deliveries, different_deliveries, greater, key, last_greater, peers, store,
-    value, ASKED, DELIVERED, HELD, LINE, NEW, OLD, SALT, SLOTS,
+    deleted, deliveries, different_deliveries, greater, key, last_greater, peers, store, value,
+    DELIVERED, HELD, LINE, NEW, OLD, SALT, SLOTS,
 };
 use reference::frame::{Message, FRAME_MAX};
 use samples::script::{framed, put_message, repl_message};
@@ -42,7 +42,6 @@ fn measured() -> Vec<(&'static str, usize)> {
     purges(&mut most);
     requests(&mut most);
     reports(&mut most);
-    curves(&mut most);
     most.0
 }
 
@@ -298,23 +297,6 @@ fn reports(most: &mut Most) {
                 raw::explain(&list, key, reasons)
             });
         }
-    }
-}
-
-/// The longest table, asked before its first point, between its last two and
-/// behind them.
-fn curves(most: &mut Most) {
-    let (_, numbers, value) = curve();
-    most.of("sp_curve_write", &value, |out| {
-        raw::curve_write(&numbers, out)
-    });
-    most.of("sp_curve_read", &numbers, |numbers| {
-        raw::curve_read(&value, numbers)
-    });
-    for temperature in [i16::MIN, ASKED, i16::MAX] {
-        most.of("sp_curve_correction", &[0u8], |_| {
-            raw::curve_correction(&value, temperature)
-        });
     }
 }
 

@@ -2,7 +2,6 @@
 //! the same must come out. The names and parameters are those of `snowpulley::raw`.
 
 use reference::clock::Clock;
-use reference::curve::{self, BadCurve, Point};
 use reference::frame::{self, Message};
 use reference::peers::{Admission, PeerTable, Row, ROWS_MAX};
 use reference::stamp::{check_time, Stamp};
@@ -435,44 +434,4 @@ pub fn deliveries(list: &[u8]) -> u32 {
 pub fn explain(list: &[u8], key: &[u8], reasons: &mut [u8]) -> u32 {
     let explained = explain::explain(list, key, reasons);
     counted(explained.map(|winner| winner.unwrap_or(NO_DELIVERY)))
-}
-
-/// A refusal with the place at which a compensation table is bad.
-fn refused_at(bad: BadCurve) -> u32 {
-    refused(bad.refusal) | counted(Ok(bad.offset))
-}
-
-/// Points as a call has them.
-pub fn point_numbers(points: &[Point]) -> Vec<i16> {
-    let numbers = |point: &Point| [point.temperature, point.correction];
-    points.iter().flat_map(numbers).collect()
-}
-
-pub fn curve_write(numbers: &[i16], out: &mut [u8]) -> u32 {
-    let pairs = numbers.chunks_exact(2);
-    if !pairs.remainder().is_empty() {
-        return refused(Refusal::BadArgument);
-    }
-    let points = pairs.map(|pair| Point {
-        temperature: pair[0],
-        correction: pair[1],
-    });
-    let written = curve::write(&points.collect::<Vec<_>>(), out);
-    written.map_or_else(refused_at, |length| counted(Ok(length)))
-}
-
-pub fn curve_read(value: &[u8], numbers: &mut [i16]) -> u32 {
-    match curve::read(value) {
-        Ok(points) => {
-            let written = put_front(numbers, &point_numbers(&points));
-            counted(written.map(|()| points.len()))
-        }
-        Err(bad) => refused_at(bad),
-    }
-}
-
-pub fn curve_correction(value: &[u8], temperature: i16) -> u32 {
-    // The answer has the 16 bits of the signed number.
-    let answer = |correction: i16| u32::from(correction as u16);
-    curve::correction(value, temperature).map_or_else(refused_at, answer)
 }

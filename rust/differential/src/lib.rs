@@ -21,7 +21,7 @@ pub struct Family {
     pub share: u64,
 }
 
-pub const FAMILIES: [Family; 9] = [
+pub const FAMILIES: [Family; 8] = [
     Family {
         name: "checksums",
         run: families::checksums::run,
@@ -61,10 +61,5 @@ pub const FAMILIES: [Family; 9] = [
         name: "explain",
         run: families::explain::run,
         share: 200,
-    },
-    Family {
-        name: "curve",
-        run: families::curve::run,
-        share: 1000,
     },
 ];

@@ -2,7 +2,7 @@
 //! that the header names for a call, and each of its answers.
 
 use differential::families::reused::{LOWER_TIES, TIES};
-use differential::families::{clock, curve, handler, overtaking, purge};
+use differential::families::{clock, handler, overtaking, purge};
 use differential::FAMILIES;
 
 /// How many shares of cases each family runs, from several seeds.
@@ -135,29 +135,6 @@ fn explain() {
     run("explain", &reach);
 }
 
-/// A refusal of a table has an offset beside it, so the whole results are listed.
-#[test]
-fn curve() {
-    let reach: [Reach; 15] = [
-        ("curve_write", &[], &[17, 40, 42, 4]),
-        ("curve_read", &[1, 2], &[40, 41, 42, 4]),
-        ("curve_correction", &[0, 1, 2], &[40, 41, 42]),
-        ("bad points", &curve::BAD_COUNT, &[]),
-        ("bad points", &curve::NOT_ASCENDING, &[]),
-        ("bad value", &curve::BAD_COUNT, &[]),
-        ("bad value", &curve::NOT_ASCENDING, &[]),
-        ("value too short", &curve::TOO_SHORT, &[]),
-        ("value too long", &curve::TOO_LONG, &[]),
-        ("below the one before", &[0, 1, 2], &[]),
-        ("count byte", &curve::COUNT_BYTES, &[]),
-        ("points", &[1, 2, 3, 4, 5, 6, 7, 8], &[]),
-        ("neighbours apart", &curve::APART, &[]),
-        ("line", &curve::LINES, &[]),
-        ("product beyond 32 bits", &[0, 1], &[]),
-    ];
-    run("curve", &reach);
-}
-
 #[test]
 fn every_family_has_a_test() {
     let names = FAMILIES.map(|f| f.name);
@@ -170,7 +147,6 @@ fn every_family_has_a_test() {
         "store",
         "handler",
         "explain",
-        "curve",
     ];
     assert_eq!(names, tested);
 }

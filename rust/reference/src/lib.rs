@@ -5,7 +5,6 @@
 
 pub mod checksum;
 pub mod clock;
-pub mod curve;
 pub mod deliveries;
 pub mod explain;
 pub mod frame;

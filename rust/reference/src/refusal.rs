@@ -38,9 +38,6 @@ refusals! {
     LowerLine = 33,
     BelowLine = 34,
     UnequalLines = 35,
-    BadCount = 40,
-    BadLength = 41,
-    NotAscending = 42,
 }
 
 impl Refusal {

@@ -78,15 +78,6 @@ impl Args {
         ids.collect::<Result<_, _>>().map(Some)
     }
 
-    /// The key of `--key`, which is in hexadecimal with `--hex`.
-    pub fn key_option(&mut self) -> Result<Option<Vec<u8>>, Failure> {
-        let (word, hex) = (self.option("--key")?, self.flag("--hex"));
-        match word {
-            None if hex => Err(failure("--hex needs --key")),
-            word => word.map(|word| key(word, hex)).transpose(),
-        }
-    }
-
     /// All that is left; an option that no one took is an error.
     pub fn operands(self) -> Result<Vec<OsString>, Failure> {
         let unknown = self.words.iter().find(|word| looks_like_option(word));
@@ -204,12 +195,9 @@ fn value_inside(word: &OsStr) -> Option<OsString> {
     Some(value.into())
 }
 
-/// A lone dash stands for standard input, and before a digit it is a minus sign.
+/// A lone dash stands for standard input.
 fn looks_like_option(word: &OsStr) -> bool {
-    match word.as_encoded_bytes() {
-        [b'-', next, ..] => !next.is_ascii_digit(),
-        _ => false,
-    }
+    word.as_encoded_bytes().starts_with(b"-") && word != "-"
 }
 
 #[cfg(test)]
@@ -246,8 +234,6 @@ mod tests {
         assert_eq!(operand(&["a", "b"]), "too many words: 'b'");
         assert_eq!(operand(&["--what"]), "no option '--what'");
         assert_eq!(args(&["-"]).operand("FILE"), Ok("-".into()));
-        assert_eq!(args(&["-8.0:1"]).operand("POINTS"), Ok("-8.0:1".into()));
-        assert_eq!(operand(&["-.5"]), "no option '-.5'");
         let two = |words: &[&str]| args(words).operands_named(["LIST", "KEY"]);
         assert_eq!(two(&["a"]).unwrap_err().message, "KEY is missing");
         assert_eq!(

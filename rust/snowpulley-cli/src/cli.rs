@@ -2,7 +2,6 @@
 
 use crate::args::Args;
 use crate::commands;
-use snowpulley::curve::BadCurve;
 use snowpulley::Refusal;
 use std::ffi::OsString;
 use std::fmt::Write;
@@ -69,12 +68,6 @@ pub fn failure(message: impl Into<String>) -> Failure {
 impl From<Refusal> for Failure {
     fn from(refusal: Refusal) -> Failure {
         failure(format!("refused with {refusal}"))
-    }
-}
-
-impl From<BadCurve> for Failure {
-    fn from(bad: BadCurve) -> Failure {
-        failure(format!("refused with {bad}"))
     }
 }
 

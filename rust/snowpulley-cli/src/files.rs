@@ -55,7 +55,7 @@ impl Changed {
     }
 
     pub fn keep_apart_from(&self, input: &OsStr) -> Result<(), Failure> {
-        keep_apart(Some(input), &[self.output.as_deref()])
+        keep_apart(input, &[self.output.as_deref()])
     }
 
     pub fn write(&self, bytes: &[u8]) -> Result<(), Failure> {
@@ -130,9 +130,8 @@ fn named(path: &OsStr, error: &io::Error) -> Failure {
 
 /// An output may not be the file that was read, or the file of another output:
 /// what is in it would be lost. To be asked before anything is written.
-pub fn keep_apart(input: Option<&OsStr>, outputs: &[Option<&OsStr>]) -> Result<(), Failure> {
-    let input = input.map(|input| (input, source(input)));
-    let mut used: Vec<_> = input.into_iter().collect();
+pub fn keep_apart(input: &OsStr, outputs: &[Option<&OsStr>]) -> Result<(), Failure> {
+    let mut used = vec![(input, source(input))];
     for output in outputs.iter().copied().flatten() {
         let place = place(output);
         let same = used

@@ -2,7 +2,7 @@
 
 mod common;
 
-use common::{file, here, run, run_with, table_of, temporary, Run};
+use common::{file, here, run, run_with, temporary, Run};
 use reference::frame::sealed;
 use reference::store::{create, entries, image_length, offer, value, Entry};
 use reference::value::{ACTIVE, TOMBSTONE};
@@ -60,27 +60,6 @@ fn which_one_is_in_force_and_why_not_the_others() {
         named.out.replace(&shown, "standard input"),
         asked(&list(), &["comp/scale-3"]).out
     );
-}
-
-#[test]
-fn compensation_tables_are_shown_by_their_points() {
-    let two = [(-80, 120), (200, 0)];
-    let three = [(-80, 95), (200, 0), (400, -12)];
-    let list = [
-        repl(KEY, (MORNING, 0, 1), Some(&table_of(&two))),
-        repl(KEY, (MORNING + HOUR, 0, 1), Some(&table_of(&three))),
-        repl(b"zero", (MORNING, 0, 1), Some(b"0")),
-    ];
-    let list = list.concat();
-    asked(&list, &["comp/scale-3"]).says(0, "audit-curve.txt");
-    let html = page("audit-curve.html", &list, &["comp/scale-3"]);
-    is_a_page(&html);
-    assert!(html.contains("<td>curve -8.0:+95,20.0:0,40.0:-12</td>"));
-    // What is not listed is not explained.
-    let points = "after the word curve";
-    assert!(spaced(&html).contains(points));
-    assert!(!spaced(&asked(&list, &["zero"]).out).contains(points));
-    assert!(spaced(&asked(&list, &["zero", "--all"]).out).contains(points));
 }
 
 /// The latest time, long values of all kinds, and the longest outcome.

@@ -17,8 +17,6 @@ fn files_that_cannot_be_used_are_named() {
         &["replay", name],
         &["purge", name, "1"],
         &["offer", name, name],
-        &["curve", "--value", name],
-        &["curve", "--store", name, "--key", "k"],
     ] {
         let (run, command) = (run(words), words[0]);
         assert_eq!((run.status, run.out.as_str()), (2, ""));
@@ -72,11 +70,9 @@ fn an_output_that_is_the_input_is_refused() {
     let [list, journal] = &bytes;
     let [list, journal] = [("files-list", list), ("files-journal", journal)]
         .map(|(name, bytes)| file(name, bytes).to_str().unwrap().to_string());
-    let commands: [(&str, &[&str]); 7] = [
+    let commands: [(&str, &[&str]); 5] = [
         (&list, &["purge", &list, "1", "--output"]),
         (&list, &["audit", &list, "k", "--html"]),
-        (&list, &["curve", "--value", &list, "--output"]),
-        (&list, &["curve", "--store", &list, "--key", "k", "--svg"]),
         (&journal, &["replay", &journal, "--store"]),
         (&journal, &["replay", &journal, "--replies"]),
         (&journal, &["replay", &journal, "--deliveries"]),
@@ -115,8 +111,6 @@ fn outputs_are_kept_apart() {
     let words = ["replay", "-", "--store", name, "--replies", name];
     let told = format!("replay: {name:?} is the same file as {name:?}, which would be overwritten");
     run(&words).fails(&told);
-    let words = ["curve", "1:1", "--svg", name, "--output", name];
-    run(&words).fails(&told.replace("replay: ", "curve: "));
     assert!(!path.exists());
     let null = [
         "replay",
@@ -144,6 +138,4 @@ fn a_dash_is_no_output() {
     run(&["ring", "--ids", "1", "--svg=-"]).fails(&format!("ring: --svg {told}"));
     run(&["purge", "-", "1", "--output=-"]).fails(&format!("purge: --output {told}"));
     run(&["offer", "-", "b", "--output=-"]).fails(&format!("offer: --output {told}"));
-    run(&["curve", "1:1", "--output=-"]).fails(&format!("curve: --output {told}"));
-    run(&["curve", "1:1", "--svg=-"]).fails(&format!("curve: --svg {told}"));
 }

@@ -2,7 +2,7 @@
 
 mod common;
 
-use common::{file, run, run_with, table_of, temporary, Run};
+use common::{file, run, run_with, temporary, Run};
 use reference::frame::Message;
 use reference::replay::replay;
 use samples::script::{framed, put_message, record, repl_message, stamp};
@@ -14,10 +14,10 @@ fn answered(journal: &[u8]) -> Run {
     run_with(&["replay", "-"], journal)
 }
 
-/// Every request, and bytes that are text, no text, long, or quotes; a table.
+/// Every request, and bytes that are text, no text, long, or quotes.
 fn journal() -> Vec<u8> {
     let key = b"lamp".to_vec();
-    let (stamp, table) = (stamp(9, 8, 7), table_of(&[(-80, 95), (200, 0)]));
+    let stamp = stamp(9, 8, 7);
     let records = [
         record(10, &framed(&put_message(b"lamp", b"on"))),
         record(11, &framed(&put_message(b"raw", &[27, 0]))),
@@ -30,7 +30,6 @@ fn journal() -> Vec<u8> {
         record(18, &framed(&put_message(b"a\" = \"b", b"\\"))),
         record(19, &framed(&Message::Ok)),
         record(20, &[0, 6, 99, 0, 1, 2, 3, 4]),
-        record(21, &framed(&put_message(b"comp/scale-3", &table))),
     ];
     records.concat()
 }

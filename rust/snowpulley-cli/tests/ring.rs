@@ -2,7 +2,7 @@
 
 mod common;
 
-use common::{attribute, is_a_drawing, run, temporary, Run};
+use common::{run, temporary, Run};
 
 fn asked(options: &str, keys: &[&str]) -> Run {
     let options = options.split_whitespace();
@@ -25,6 +25,25 @@ fn the_ring_in_words() {
     let too_few = asked("--ids 1,2,3,4 --down 1,4", &["zero"]);
     assert_eq!(too_few.status, 1);
     assert!(too_few.out.ends_with("TOO_FEW\n"));
+}
+
+/// Every element is closed, and there is nothing but black and white.
+fn is_a_drawing(svg: &str) {
+    assert!(svg.starts_with("<?xml") && svg.ends_with("</svg>\n"));
+    let elements = svg.lines().filter(|line| line.starts_with('<')).skip(2);
+    for line in elements.filter(|line| !line.starts_with("<style")) {
+        let text = line.starts_with("<text") && line.ends_with("</text>");
+        let closed = line.ends_with("/>") || text || line.starts_with("</");
+        assert!(closed, "{line}");
+    }
+    for part in svg.split("fill: ").chain(svg.split("stroke: ")).skip(1) {
+        let colour: String = part.chars().take_while(char::is_ascii_alphabetic).collect();
+        let known = ["black", "white", "none", "xml"];
+        assert!(
+            known.contains(&colour.as_str()) || colour.is_empty(),
+            "{colour}"
+        );
+    }
 }
 
 #[test]
@@ -63,6 +82,12 @@ fn many_places_and_keys_are_drawn_without_names() {
     assert!(svg.contains("too many to name each") && svg.contains("is not drawn"));
     assert_eq!(svg.matches("class=\"badge\"").count(), 10 + 7 * 3 + 1);
     assert!(svg.contains(">\"i\"<"));
+}
+
+/// The number in an attribute of an element.
+fn attribute(line: &str, name: &str) -> f64 {
+    let (_, rest) = line.split_once(&format!(" {name}=\"")).unwrap();
+    rest.split('"').next().unwrap().parse().unwrap()
 }
 
 /// No two ids lie over each other, however close their places are.

@@ -2,7 +2,7 @@
 
 mod common;
 
-use common::{file, run, run_with, store_of, table_of};
+use common::{file, run, run_with};
 use reference::stamp::{Stamp, TIME_END};
 use reference::store::{create, image_length, offer, purge};
 use std::path::Path;
@@ -55,34 +55,6 @@ fn a_store_that_holds_nothing_and_one_that_is_full() {
     run_with(&["show", "-"], &image).says(0, "show-empty.txt");
     offer(&mut image, b"k", b"v", 0, stamp(1, 2, 3)).unwrap();
     run_with(&["show", "-"], &image).says(0, "show-full.txt");
-}
-
-/// Two points, as many as are shown, the most, and what only looks like some.
-fn tables() -> Vec<u8> {
-    let two = table_of(&[(-80, 120), (200, 0)]);
-    let points: Vec<(i16, i16)> = (0..8).map(|n| (n * 150 - 405, 40 - 12 * n)).collect();
-    let longer = [&two[..], &[0]].concat();
-    store_of(
-        8,
-        &[
-            (b"comp/scale-1", &two, 0, 1),
-            (b"comp/scale-2", &table_of(&points[..5]), 0, 1),
-            (b"comp/scale-3", &table_of(&points), 0, 1),
-            (b"comp/scale-4", b"-8.0:+120,20.0:0", 0, 1),
-            (b"comp/scale-5", &longer, 0, 1),
-        ],
-    )
-}
-
-#[test]
-fn compensation_tables() {
-    let mut image = tables();
-    run_with(&["show", "-"], &image).says(0, "show-curve.txt");
-    run_with(&["show", "-", "--full"], &image).says(0, "show-curve-full.txt");
-    // What nothing vouches for is read all the same.
-    image[16] = 0;
-    let damaged = run_with(&["show", "-"], &image);
-    assert!(damaged.status == 1 && damaged.out.contains("  curve -8.0:+120,20.0:0\n"));
 }
 
 #[test]

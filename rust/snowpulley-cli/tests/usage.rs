@@ -4,8 +4,8 @@ mod common;
 
 use common::run;
 
-const COMMANDS: [&str; 10] = [
-    "demo", "show", "purge", "offer", "replay", "audit", "curve", "owners", "ring", "refusal",
+const COMMANDS: [&str; 9] = [
+    "demo", "show", "purge", "offer", "replay", "audit", "owners", "ring", "refusal",
 ];
 
 #[test]
@@ -33,7 +33,6 @@ fn every_command_has_help() {
     run(&["purge", "--help"]).says(0, "help-purge.txt");
     run(&["offer", "--help"]).says(0, "help-offer.txt");
     run(&["replay", "--help"]).says(0, "help-replay.txt");
-    run(&["curve", "--help"]).says(0, "help-curve.txt");
 }
 
 #[test]

@@ -1,9 +1,8 @@
 /* Modules of a site: settings are written on module 1, the owners of one are named, the entries
  * are listed and sent to module 2, its store is merged into a spare one, and of what was sent to it
  * a report says which delivery of a key is in force. Then module 1 gives a stamp twice, and modules
- * 2 and 3 still come to hold the same. A deletion is cleared; what module 4, which slept, holds of
- * it is refused, and its store is made anew. At last a compensation table is kept as a value, and
- * its correction is asked for at some temperatures. C99, and C++11. */
+ * 2 and 3 still come to hold the same. At last a deletion is cleared; what module 4, which slept,
+ * holds of it is refused, and its store is made anew. C99, and C++11. */
 #include <stdio.h>
 #include <string.h>
 
@@ -303,69 +302,6 @@ static void clear_a_deletion(void) {
     merge(&two, &four);
 }
 
-/* ---- A compensation table */
-
-/* Tells a refusal, if there is one, and where the table is bad. */
-static int bad_table(const char *call, sp_result r) {
-    if (refused(call, r)) {
-        printf("  at byte %u\n", SP_ANSWER(r));
-    }
-    return SP_IS_REFUSED(r);
-}
-
-static void print_points(const uint8_t *value, size_t value_len) {
-    int16_t numbers[SP_CURVE_NUMBERS_MAX];
-    sp_result r = sp_curve_read(value, value_len, numbers, SP_CURVE_NUMBERS_MAX);
-    uint32_t i;
-    if (bad_table("sp_curve_read", r)) {
-        return;
-    }
-    for (i = 0; i < SP_ANSWER(r); i++) {
-        printf("  %.1f degrees: %+d ppm\n", numbers[SP_POINT(i) + SP_POINT_TEMPERATURE] / 10.0,
-               numbers[SP_POINT(i) + SP_POINT_CORRECTION]);
-    }
-}
-
-static void print_correction(const uint8_t *value, size_t value_len, int16_t temperature) {
-    sp_result r = sp_curve_correction(value, value_len, temperature);
-    if (!bad_table("sp_curve_correction", r)) {
-        printf("correction at %.1f degrees: %+d ppm\n", temperature / 10.0, SP_CORRECTION(r));
-    }
-}
-
-/* A table is a value as any other: it is offered to the spare store, made anew, and asked where it
- * stands there. */
-static void keep_a_table(void) {
-    /* Tenths of a degree and ppm. */
-    static const int16_t table[] = {-80, 120, 215, 4, 400, -95};
-    static const int16_t wrong[] = {215, 4, -80, 120};
-    const char *key = "curve/scale-3";
-    uint8_t out[SP_CURVE_BYTES(3)];
-    uint64_t place[SP_PLACE_WORDS] = {0, 0};
-    sp_result written = sp_curve_write(table, SP_POINT(3), out, sizeof out);
-    const uint8_t *value;
-    size_t value_len;
-
-    bad_table("sp_curve_write", written);
-    refused("sp_store_create", sp_store_create(spare, sizeof spare, SLOTS));
-    refused("sp_store_offer",
-            sp_store_offer(spare, sizeof spare, bytes(key), strlen(key), out, SP_ANSWER(written),
-                           SP_FLAG_ACTIVE, MORNING + 30, 0, 1));
-    refused("sp_store_lookup", sp_store_lookup(spare, sizeof spare, bytes(key), strlen(key), place,
-                                               SP_PLACE_WORDS));
-    value = spare + place[SP_PLACE_AT];
-    value_len = (size_t)place[SP_PLACE_LEN];
-    printf("spare store: %s is a table of %u bytes\n", key, (unsigned)value_len);
-    print_points(value, value_len);
-    print_correction(value, value_len, -200);
-    print_correction(value, value_len, 100);
-    print_correction(value, value_len, 300);
-    print_correction(value, value_len, 500);
-
-    bad_table("sp_curve_write", sp_curve_write(wrong, SP_POINT(2), out, sizeof out));
-    print_points(bytes("+95 ppm"), 7); /* a value, but no table */
-}
-
 int main(void) {
     create(&one, 1);
     create(&two, 2);
@@ -405,7 +341,6 @@ int main(void) {
 
     give_a_stamp_twice();
     clear_a_deletion();
-    keep_a_table();
     return memcmp(one.store, two.store, sizeof two.store) != 0 ||
            memcmp(two.store, three.store, sizeof two.store) != 0;
 }

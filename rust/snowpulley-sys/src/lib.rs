@@ -21,9 +21,6 @@ pub const SP_BAD_ARGUMENT: u16 = 17;
 pub const SP_LOWER_LINE: u16 = 33;
 pub const SP_BELOW_LINE: u16 = 34;
 pub const SP_UNEQUAL_LINES: u16 = 35;
-pub const SP_BAD_COUNT: u16 = 40;
-pub const SP_BAD_LENGTH: u16 = 41;
-pub const SP_NOT_ASCENDING: u16 = 42;
 
 pub const SP_KEY_MAX: usize = 64;
 pub const SP_VALUE_MAX: usize = 512;
@@ -104,12 +101,6 @@ pub const SP_LOWER_NODE: u8 = 3;
 pub const SP_SAME_ENTRY: u8 = 4;
 pub const SP_OTHER_KEY: u8 = 5;
 pub const SP_LOWER_CONTENT: u8 = 6;
-
-pub const SP_CURVE_POINTS_MAX: usize = 8;
-pub const SP_CURVE_NUMBERS_MAX: usize = 16;
-pub const SP_POINT_NUMBERS: usize = 2;
-pub const SP_POINT_TEMPERATURE: usize = 0;
-pub const SP_POINT_CORRECTION: usize = 1;
 
 extern "C" {
     pub fn sp_crc32c(bytes: *const u8, bytes_len: usize) -> u32;
@@ -287,18 +278,4 @@ extern "C" {
         reasons: *mut u8,
         reasons_len: usize,
     ) -> u32;
-
-    pub fn sp_curve_write(
-        numbers: *const i16,
-        numbers_len: usize,
-        out: *mut u8,
-        out_len: usize,
-    ) -> u32;
-    pub fn sp_curve_read(
-        value: *const u8,
-        value_len: usize,
-        numbers: *mut i16,
-        numbers_len: usize,
-    ) -> u32;
-    pub fn sp_curve_correction(value: *const u8, value_len: usize, temperature: i16) -> u32;
 }

@@ -64,18 +64,6 @@ module 2, REPL comp/scale-3 = +120 ppm at (1736836800000, 0, 1): OK
 module 2, REPL test-load = 50 kg at (1736836800001, 0, 1): ERR BELOW_LINE
 module 2, GET test-load: NOTFOUND
 module 2 merges the store of module 4: passed over: 0
-spare store: curve/scale-3 is a table of 13 bytes
-  -8.0 degrees: +120 ppm
-  21.5 degrees: +4 ppm
-  40.0 degrees: -95 ppm
-correction at -20.0 degrees: +120 ppm
-correction at 10.0 degrees: +49 ppm
-correction at 30.0 degrees: -42 ppm
-correction at 50.0 degrees: -95 ppm
-sp_curve_write: refused with NOT_ASCENDING
-  at byte 5
-sp_curve_read: refused with BAD_COUNT
-  at byte 0
 ";
 
 #[test]

@@ -56,7 +56,6 @@ fn rust_type(c: &str) -> String {
         "uint16_t" => "u16",
         "uint32_t" | "sp_result" => "u32",
         "uint64_t" => "u64",
-        "int16_t" => "i16",
         "size_t" => "usize",
         other => panic!("a type the test does not know: {other}"),
     };
@@ -288,8 +287,6 @@ fn the_code_has_the_same_numbers() {
     }
     let rows = c["SP_PEERS_MAX"] * c["SP_ROW_WORDS"];
     assert_eq!(c["SP_PEERS_WORDS"], 1 + rows);
-    let numbers = c["SP_CURVE_POINTS_MAX"] * c["SP_POINT_NUMBERS"];
-    assert_eq!(c["SP_CURVE_NUMBERS_MAX"], numbers);
     let entry = constants(&code("entry"), &Numbers::new());
     let image = constants(&code("image"), &entry);
     let (first, width) = (image["HEADER_WIDTH"], image["SLOT_WIDTH"]);

@@ -2,14 +2,12 @@
 //!
 //! `raw` has every function of the header over plain slices. The other
 //! modules give them types: a clock, a peer table and the answers as Rust
-//! values, and a refusal as an error, in `curve` with the place of the fault.
-//! `handler::handle` returns a refusal as a part of its answer, since an ERR
-//! frame can come with it.
+//! values, and a refusal as an error. `handler::handle` returns a refusal as a
+//! part of its answer, since an ERR frame can come with it.
 
 pub mod audit;
 pub mod checksum;
 pub mod clock;
-pub mod curve;
 pub mod entry;
 mod fields;
 pub mod frame;

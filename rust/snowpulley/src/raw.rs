@@ -282,17 +282,3 @@ pub fn explain(list: &[u8], key: &[u8], reasons: &mut [u8]) -> u32 {
         )
     }
 }
-
-pub fn curve_write(numbers: &[i16], out: &mut [u8]) -> u32 {
-    let (bytes, len) = (out.as_mut_ptr(), out.len());
-    unsafe { ffi::sp_curve_write(numbers.as_ptr(), numbers.len(), bytes, len) }
-}
-
-pub fn curve_read(value: &[u8], numbers: &mut [i16]) -> u32 {
-    let (front, len) = (numbers.as_mut_ptr(), numbers.len());
-    unsafe { ffi::sp_curve_read(value.as_ptr(), value.len(), front, len) }
-}
-
-pub fn curve_correction(value: &[u8], temperature: i16) -> u32 {
-    unsafe { ffi::sp_curve_correction(value.as_ptr(), value.len(), temperature) }
-}

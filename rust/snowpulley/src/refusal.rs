@@ -72,20 +72,14 @@ refusals! {
         "a ring that is not sound";
     BadArgument = SP_BAD_ARGUMENT:
         "a count, flag, state or ERR number out of range, an id listed twice, a tombstone with a \
-         value, words that are no clock or no sound peer table, a list of deliveries that is not \
-         readable, or an odd number of numbers for the points of a compensation table";
+         value, words that are no clock or no sound peer table, or a list of deliveries that is \
+         not readable";
     LowerLine = SP_LOWER_LINE:
         "a purge to a line below the one that the store holds";
     BelowLine = SP_BELOW_LINE:
         "an entry whose time is below the store's purge line, for a key that is not held";
     UnequalLines = SP_UNEQUAL_LINES:
         "a merge of stores with different purge lines";
-    BadCount = SP_BAD_COUNT:
-        "a compensation table that has no count of points, or one that is not from 1 to 8";
-    BadLength = SP_BAD_LENGTH:
-        "a compensation table that is not as long as its count of points asks for";
-    NotAscending = SP_NOT_ASCENDING:
-        "a compensation table with a temperature that is not above the one before";
 }
 
 impl Refusal {

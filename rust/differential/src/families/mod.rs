@@ -2,7 +2,6 @@
 
 pub mod checksums;
 pub mod clock;
-pub mod curve;
 pub mod explain;
 pub mod frames;
 pub mod handler;
@@ -11,7 +10,6 @@ pub mod list;
 pub mod message;
 pub mod overtaking;
 pub mod peers;
-pub mod points;
 pub mod purge;
 pub mod reused;
 pub mod ring;

@@ -1,7 +1,6 @@
 //! The commands, each in a module of its own.
 
 mod audit;
-mod curve;
 mod demo;
 mod offer;
 mod owners;
@@ -21,7 +20,6 @@ pub const ALL: &[Command] = &[
     offer::COMMAND,
     replay::COMMAND,
     audit::COMMAND,
-    curve::COMMAND,
     owners::COMMAND,
     ring::COMMAND,
     refusal::COMMAND,

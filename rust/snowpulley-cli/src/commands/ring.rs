@@ -32,7 +32,7 @@ fn run(mut args: Args) -> Outcome {
     let (svg, places) = (args.output("--svg")?, args.flag("--places"));
     let walks = owners::walks(&cluster, args)?;
     if let Some(path) = svg {
-        files::write(&path, picture::ring::drawn(&cluster, &walks).as_bytes())?;
+        files::write(&path, picture::drawn(&cluster, &walks).as_bytes())?;
     }
     Ok(Report {
         text: text(&cluster, &walks, places),

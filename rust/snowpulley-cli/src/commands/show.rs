@@ -8,7 +8,6 @@ use crate::text::bytes::{limit, shown};
 use crate::text::entries::{self, with_note, Row, COLUMNS};
 use crate::text::table::{Side, Table};
 use crate::text::time::line_shown;
-use crate::text::value;
 use snowpulley::image::{self, Header, Slot};
 use snowpulley::{store, Entry};
 use std::fmt::Write;
@@ -21,9 +20,7 @@ pub const COMMAND: Command = Command {
 Shows the header with the purge line, a row for each used slot and the free
 slots. STORE is a file, or - for standard input. Long keys and values are cut
 unless --full is given.
-Bytes that are not printable ASCII are in hexadecimal after an x. A value that
-reads as a compensation table is shown by its points after the word curve, as
-snowpulley curve takes them.
+Bytes that are not printable ASCII are in hexadecimal after an x.
 
 For an image that is not sound, a negative answer, it names the first fault and
 its slot, and shows what the bytes say all the same.
@@ -119,7 +116,7 @@ fn row(slot: usize, bytes: Slot<'_>, limit: usize) -> Row {
         stamp: bytes.stamp(),
         value: match bytes.flag() {
             1 if value.is_empty() => String::new(),
-            _ => value::shown(value, limit),
+            _ => shown(value, limit),
         },
     }
 }

@@ -25,11 +25,6 @@ pub fn shown(bytes: &[u8], limit: usize) -> String {
 
 /// All of the bytes if they fit in so many columns, else as many as do.
 pub fn fitting(bytes: &[u8], width: usize) -> String {
-    fitting_by(shown, bytes, width)
-}
-
-/// The same by another way to show at most a number of bytes.
-pub fn fitting_by(shown: fn(&[u8], usize) -> String, bytes: &[u8], width: usize) -> String {
     let all = shown(bytes, usize::MAX);
     if all.len() <= width {
         return all;
@@ -44,13 +39,6 @@ pub fn hex(bytes: &[u8], limit: usize) -> String {
     let shown = bytes.iter().take(limit);
     let digits: String = shown.map(|byte| format!("{byte:02x}")).collect();
     format!("x{digits}{}", length_note(bytes, limit))
-}
-
-/// At most `limit` bytes as `FF B0`: as a byte editor shows them.
-pub fn pairs(bytes: &[u8], limit: usize) -> String {
-    let shown = bytes.iter().take(limit);
-    let pairs: Vec<String> = shown.map(|byte| format!("{byte:02X}")).collect();
-    format!("{}{}", pairs.join(" "), length_note(bytes, limit))
 }
 
 fn is_printable(byte: u8) -> bool {
@@ -83,13 +71,6 @@ mod tests {
         assert_eq!(shown(b"abc", 3), "\"abc\"");
         assert_eq!(shown(b"abcdef", 3), "\"abc\"... (6 bytes)");
         assert_eq!(shown(&[0; 5], 3), "x000000... (5 bytes)");
-    }
-
-    #[test]
-    fn pairs_of_digits() {
-        assert_eq!(pairs(&[0xFF, 0xB0, 7], 3), "FF B0 07");
-        assert_eq!(pairs(&[0xFF, 0xB0, 7], 2), "FF B0... (3 bytes)");
-        assert_eq!(pairs(&[], 2), "");
     }
 
     #[test]

@@ -3,7 +3,6 @@
 use super::bytes::shown;
 use super::table::{Column, Side, Table};
 use super::time::utc;
-use super::value;
 use snowpulley::{Content, Entry, Stamp};
 
 pub const COLUMNS: [Column; 8] = [
@@ -49,7 +48,7 @@ impl Row {
 /// The row of an entry of a sound store.
 pub fn row(slot: usize, entry: &Entry<'_>, limit: usize) -> Row {
     let (state, value) = match entry.content {
-        Content::Active(value) => ("active", value::shown(value, limit)),
+        Content::Active(value) => ("active", shown(value, limit)),
         Content::Tombstone => ("tombstone", String::new()),
     };
     Row {

@@ -1,7 +1,6 @@
 //! Messages in words.
 
 use super::bytes::{hex, shown};
-use super::value;
 use snowpulley::{frame, Content, Entry, Message, Refusal};
 
 /// What a frame says, or why it says nothing; of each run of bytes at most
@@ -14,15 +13,12 @@ pub fn of_frame(frame: &[u8], limit: usize) -> String {
 }
 
 pub fn of_message(message: &Message<'_>, limit: usize) -> String {
-    let name = name(message);
+    let (name, text) = (name(message), |bytes| shown(bytes, limit));
     match *message {
-        Message::Put { key, value } => {
-            let (key, value) = (shown(key, limit), value::shown(value, limit));
-            format!("{name} {key} = {value}")
-        }
-        Message::Get { key } | Message::Del { key } => format!("{name} {}", shown(key, limit)),
+        Message::Put { key, value } => format!("{name} {} = {}", text(key), text(value)),
+        Message::Get { key } | Message::Del { key } => format!("{name} {}", text(key)),
         Message::Repl(entry) => format!("{name} {}", of_entry(&entry, limit)),
-        Message::Value { value } => format!("{name} {}", value::shown(value, limit)),
+        Message::Value { value } => format!("{name} {}", text(value)),
         Message::Err { number } => format!("{name} {number} {}", refusal_name(number)),
         Message::Ok | Message::NotFound => name.to_string(),
     }
@@ -50,7 +46,7 @@ fn refusal_name(number: u8) -> &'static str {
 
 pub fn of_entry(entry: &Entry<'_>, limit: usize) -> String {
     let content = match entry.content {
-        Content::Active(value) => format!("= {}", value::shown(value, limit)),
+        Content::Active(value) => format!("= {}", shown(value, limit)),
         Content::Tombstone => "deleted".to_string(),
     };
     format!("{} {content} at {}", shown(entry.key, limit), entry.stamp)

@@ -3,7 +3,6 @@
 // Each test file uses its own part of this.
 #![allow(dead_code)]
 
-use reference::curve::{self, Point};
 use reference::stamp::Stamp;
 use reference::store::{create, image_length, offer};
 use std::ffi::OsStr;
@@ -118,41 +117,4 @@ pub fn store_of(slots: usize, entries: &[Given<'_>]) -> Vec<u8> {
     create(&mut image, slots).expect("a number of slots");
     assert!(entries.iter().all(|&entry| offered(&mut image, entry)));
     image
-}
-
-/// The reference's value of a table, by temperatures in tenths and corrections.
-pub fn table_of(points: &[(i16, i16)]) -> Vec<u8> {
-    let points = points.iter().map(|&(temperature, correction)| Point {
-        temperature,
-        correction,
-    });
-    let points: Vec<Point> = points.collect();
-    let mut value = vec![0; curve::value_length(points.len())];
-    assert_eq!(curve::write(&points, &mut value), Ok(value.len()));
-    value
-}
-
-/// Every element is closed, and there is nothing but black and white.
-pub fn is_a_drawing(svg: &str) {
-    assert!(svg.starts_with("<?xml") && svg.ends_with("</svg>\n"));
-    let elements = svg.lines().filter(|line| line.starts_with('<')).skip(2);
-    for line in elements.filter(|line| !line.starts_with("<style")) {
-        let text = line.starts_with("<text") && line.ends_with("</text>");
-        let closed = line.ends_with("/>") || text || line.starts_with("</");
-        assert!(closed, "{line}");
-    }
-    for part in svg.split("fill: ").chain(svg.split("stroke: ")).skip(1) {
-        let colour: String = part.chars().take_while(char::is_ascii_alphabetic).collect();
-        let known = ["black", "white", "none", "xml"];
-        assert!(
-            known.contains(&colour.as_str()) || colour.is_empty(),
-            "{colour}"
-        );
-    }
-}
-
-/// The number in an attribute of an element.
-pub fn attribute(line: &str, name: &str) -> f64 {
-    let (_, rest) = line.split_once(&format!(" {name}=\"")).unwrap();
-    rest.split('"').next().unwrap().parse().unwrap()
 }

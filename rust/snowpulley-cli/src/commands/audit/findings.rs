@@ -6,10 +6,8 @@ use crate::cli::{failure, Failure};
 use crate::text::bytes::{fitting, shown};
 use crate::text::table::{Column, Side};
 use crate::text::time::utc;
-use crate::text::value;
 use snowpulley::audit::{explain, read, Reason, Unreadable, DELIVERIES_MAX};
 use snowpulley::checksum::crc32c;
-use snowpulley::curve;
 use snowpulley::{Content, Entry, Refusal};
 
 pub const COLUMNS: [Column; 6] = [
@@ -28,15 +26,12 @@ pub fn with_key<T>(key: T, cells: [T; 6]) -> [T; 7] {
     [delivery, key, time, count, module, value, outcome]
 }
 
-const NOTE: &str = "Each delivery is a REPL frame of the list: the message by which a module \
+pub const NOTE: &str = "Each delivery is a REPL frame of the list: the message by which a module \
     sends an entry to another one. Deliveries are counted from 0, in the order of the list. Time, \
     count and module id are the stamp that the writing module gave; they decide in this order, and \
     where all three are equal the contents decide (the value, or that it is a deletion). Times are \
     shown as counted from 1970-01-01 00:00 UTC, which is the site's convention and not a rule of \
     the store.";
-
-const CURVES: &str = " A value that is a compensation table is shown by its points, after the \
-    word curve: -8.0:+120 is a correction of +120 ppm at -8.0 degrees C.";
 
 /// Above what it means that a stamp was reused.
 pub const REUSED_TITLE: &str = "The reused stamp";
@@ -172,7 +167,7 @@ impl<'a> Findings<'a> {
 
     fn content(&self, place: usize, width: usize) -> String {
         match self.deliveries[place].entry.content {
-            Content::Active(value) => value::fitting(value, width),
+            Content::Active(value) => fitting(value, width),
             Content::Tombstone => "deleted".to_string(),
         }
     }
@@ -207,26 +202,10 @@ impl<'a> Findings<'a> {
 
     /// A row for each delivery of the key, or for all.
     pub fn rows(&self, all: bool, full: bool) -> Vec<Row> {
-        let width = if full { ALL } else { IN_TABLE };
-        let rows = self.listed(all).map(|place| self.row(place, width));
-        rows.collect()
-    }
-
-    /// The places of the deliveries that are listed.
-    fn listed(&self, all: bool) -> impl Iterator<Item = usize> + use<'_> {
         let places = 0..self.deliveries.len();
-        places.filter(move |&place| all || self.is_of_key(place))
-    }
-
-    /// How the rows are to be read.
-    pub fn note(&self, all: bool) -> String {
-        let mut listed = self.listed(all);
-        let is_table = |place: usize| {
-            let content = &self.deliveries[place].entry.content;
-            curve::read(content.value()).is_ok()
-        };
-        let curves = if listed.any(is_table) { CURVES } else { "" };
-        format!("{NOTE}{curves}")
+        let listed = places.filter(|&place| all || self.is_of_key(place));
+        let width = if full { ALL } else { IN_TABLE };
+        listed.map(|place| self.row(place, width)).collect()
     }
 
     fn row(&self, place: usize, width: usize) -> Row {

@@ -12,7 +12,7 @@ use crate::files;
 use crate::text::table::Table;
 use crate::text::wrap::wrapped;
 use checked::{LIMITS, LIMITS_TITLE};
-use findings::{with_key, Findings, Row, COLUMNS, KEY_COLUMN, REUSED, REUSED_TITLE};
+use findings::{with_key, Findings, Row, COLUMNS, KEY_COLUMN, NOTE, REUSED, REUSED_TITLE};
 use std::fmt::Write;
 
 pub const COMMAND: Command = Command {
@@ -44,7 +44,7 @@ fn run(mut args: Args) -> Outcome {
     let html = args.output("--html")?;
     let [path, key] = args.operands_named(["LIST", "KEY"])?;
     let (list, key) = (files::read(&path)?, args::key(key, hex)?);
-    files::keep_apart(Some(&path), &[html.as_deref()])?;
+    files::keep_apart(&path, &[html.as_deref()])?;
     let findings = Findings::of(files::name(&path), &list, &key)?;
     if let Some(path) = html {
         files::write(&path, page::page(&findings, all).as_bytes())?;
@@ -62,8 +62,7 @@ fn text(findings: &Findings<'_>, all: bool, full: bool) -> String {
     }
     let rows = findings.rows(all, full);
     if !rows.is_empty() {
-        let note = wrapped("", &findings.note(all));
-        let _ = write!(text, "\n{}\n{note}", table(rows, all));
+        let _ = write!(text, "\n{}\n{}", table(rows, all), wrapped("", NOTE));
     }
     if findings.has_reused_stamp() {
         let _ = write!(text, "\n{REUSED_TITLE}:\n{}", wrapped("", REUSED));

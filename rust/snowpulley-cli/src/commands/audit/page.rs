@@ -1,7 +1,7 @@
 //! The report as a page of HTML: black on white, for sheets of A4.
 
 use super::checked::{Checked, Proved, CONTRACT, LIMITS, LIMITS_TITLE};
-use super::findings::{with_key, Findings, Row, COLUMNS, KEY_COLUMN, REUSED, REUSED_TITLE};
+use super::findings::{with_key, Findings, Row, COLUMNS, KEY_COLUMN, NOTE, REUSED, REUSED_TITLE};
 use crate::cli::VERSION;
 use crate::text::markup::escaped;
 use crate::text::table::{Column, Side};
@@ -54,8 +54,7 @@ pub fn page(findings: &Findings<'_>, all: bool) -> String {
     let rows = findings.rows(all, true);
     if !rows.is_empty() {
         table(&mut body, &rows, all);
-        let note = escaped(&findings.note(all));
-        let _ = writeln!(body, "<p class=\"small\">{note}</p>");
+        let _ = writeln!(body, "<p class=\"small\">{}</p>", escaped(NOTE));
     }
     if findings.has_reused_stamp() {
         element(&mut body, "h2", REUSED_TITLE);

@@ -1,6 +1,5 @@
 //! `snowpulley demo`: what went wrong on the site, on the proved library.
 
-mod curve;
 mod purge;
 mod reuse;
 mod tale;
@@ -13,7 +12,6 @@ use crate::text::bytes::{shown, SHORT};
 use crate::text::entries;
 use crate::text::message::{of_entry, of_message};
 use crate::text::time::time_of_day;
-use crate::text::value;
 use snowpulley::store::{self, Found, Offered};
 use snowpulley::{Entry, Message, Refusal};
 use tale::Tale;
@@ -25,12 +23,11 @@ pub const COMMAND: Command = Command {
     help: &["\
 Two modules agree on a correction. One sleeps while the other is mended, wakes
 and offers the old one. Then a module that was restored from a spare card reuses
-a stamp. The mark of a deletion is cleared, a third module, which slept
-meanwhile, offers what was deleted, and its store is made anew. At last the
-correction is written as a compensation table, and a temperature below zero is
-read back as it was. Each line is a call of the proved library and names the
-theorem, of docs/AUDIT.md, or the definition that it shows. A line that does not
-hold is marked WRONG, and is a negative answer.
+a stamp. At last the mark of a deletion is cleared, a third module, which slept
+meanwhile, offers what was deleted, and its store is made anew. Each line is a
+call of the proved library and names the theorem, of docs/AUDIT.md, or the
+definition that it shows. A line that does not hold is marked WRONG, and is a
+negative answer.
 "],
     run,
 };
@@ -62,7 +59,6 @@ fn run(args: Args) -> Outcome {
     demo.show()?;
     demo.reuse()?;
     demo.purge()?;
-    demo.compensate()?;
     demo.name_owners()?;
     let (text, holds) = demo.tale.finish();
     Ok(Report {
@@ -218,7 +214,7 @@ impl Demo {
         let found = store::lookup(self.store(which), key)?;
         let (holds, key) = (found == expected, shown(key, SHORT));
         let found = match found {
-            Found::Value(value) => value::shown(value, SHORT),
+            Found::Value(value) => shown(value, SHORT),
             Found::Deleted => "DELETED".to_string(),
             Found::Never => "NEVER".to_string(),
         };

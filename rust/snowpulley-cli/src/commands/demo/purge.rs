@@ -9,7 +9,7 @@ use Which::{First, Second};
 
 /// All that the modules hold is older.
 const LINE: u64 = AGREED + 320 * MINUTE;
-pub(super) const NEXT_DAY: u64 = AGREED + 24 * 60 * MINUTE;
+const NEXT_DAY: u64 = AGREED + 24 * 60 * MINUTE;
 
 impl Demo {
     pub(super) fn purge(&mut self) -> Result<(), Refusal> {

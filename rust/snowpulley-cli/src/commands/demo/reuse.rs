@@ -2,8 +2,7 @@
 
 use super::{Demo, Which, AGREED, MINUTE, SLOTS};
 use crate::module::Module;
-use crate::text::bytes::SHORT;
-use crate::text::value::shown;
+use crate::text::bytes::{shown, SHORT};
 use snowpulley::store::{self, Offered};
 use snowpulley::{Content, Entry, Message, Refusal};
 use Which::{First, Second};

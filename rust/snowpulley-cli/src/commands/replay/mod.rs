@@ -2,7 +2,7 @@
 
 mod deliveries;
 
-use crate::args::Args;
+use crate::args::{self, Args};
 use crate::cli::{failure, Command, Failure, Outcome, Report};
 use crate::files;
 use crate::journal::{Broken, Record, Records};
@@ -51,7 +51,7 @@ const REQUEST_WIDTH: usize = 48;
 
 fn run(mut args: Args) -> Outcome {
     let (image, replies) = (args.output("--store")?, args.output("--replies")?);
-    let (list, key) = (args.output("--deliveries")?, args.key_option()?);
+    let (list, key) = (args.output("--deliveries")?, key(&mut args)?);
     if key.is_some() && list.is_none() {
         return Err(failure("--key needs --deliveries"));
     }
@@ -59,7 +59,7 @@ fn run(mut args: Args) -> Outcome {
     let path = args.operand("JOURNAL")?;
     let journal = files::read(&path)?;
     let outputs = [&image, &replies, &list].map(Option::as_deref);
-    files::keep_apart(Some(&path), &outputs)?;
+    files::keep_apart(&path, &outputs)?;
     let mut replay = Replay::fresh(key, if full { usize::MAX } else { SHORT })?;
     replay.all(&journal)?;
     let written = [
@@ -74,6 +74,15 @@ fn run(mut args: Args) -> Outcome {
     let Report { text, is_good } = replay.report()?;
     let text = text + &note;
     Ok(Report { text, is_good })
+}
+
+/// The key of which deliveries are asked for.
+fn key(args: &mut Args) -> Result<Option<Vec<u8>>, Failure> {
+    let (key, hex) = (args.option("--key")?, args.flag("--hex"));
+    match key {
+        None if hex => Err(failure("--hex needs --key")),
+        key => key.map(|key| args::key(key, hex)).transpose(),
+    }
 }
 
 struct Replay {

@@ -1,0 +1,13 @@
+use borrow.Author.Rules.{rules}
+use mathlib.Core.Path.{◌≡◌, sym, ◌∙◌}
+use Prim.Native.Nat.{◌≤◌, ◌-◌}
+use lib.ListN.{length, drop}
+use Rattle.checksum.specs.Table.{bytes_with}
+use Rattle.checksum.proofs.Loops.{bytes_next, bytes_end}
+use Rattle.checksum.proofs.byte_run.Goals as goal
+
+pub loop-i-preserved : goal.loop-i-preserved
+loop-i-preserved c = (search rules, rw c.byte_step-c.ensures (bytes_next _ _ _ _ c.loop-i-test.true ∙ c.loop-i.invariant.1))
+
+pub returns : goal.returns
+returns c = sym (bytes_end _ _ _ _ c.loop-i-test.false) ∙ c.loop-i.invariant.1

@@ -1,0 +1,10 @@
+use borrow.Author.Rules.{rules}
+use Rattle.checksum.specs.Crc32c.{crc32c}
+use Rattle.checksum.proofs.crc32c.Goals as goal
+
+pub returns-then-bytes-lt32 : goal.returns-then-bytes-lt32
+unfolding crc32c
+returns-then-bytes-lt32 c = rw c.bit_run.ensures
+
+pub returns : goal.returns
+returns c = c.crc32c_with.ensures.by_bits c.table-t.ensures
