@@ -9,7 +9,7 @@ use lib.ListN.{length, get_or, length-append, get_or-append}
 use lib.Seq.{get_or-append-add}
 use lib.Bits.{bit_xor, xor_shifted}
 use Rattle.checksum.specs.Crc32c.{bit_step, steps}
-use Rattle.checksum.specs.Table.{bytes_steps, range, row, rows, crc_table, entry_of}
+use Rattle.checksum.specs.Table.{bytes_steps, range, row, rows, crc_table}
 use Rattle.checksum.specs.Meaning.{TableRule}
 use Rattle.checksum.proofs.Linear.{bytes_steps_xor, bytes_steps_last}
 

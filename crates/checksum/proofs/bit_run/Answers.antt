@@ -1,8 +1,5 @@
 use borrow.Author.Rules.{rules}
-use mathlib.Core.Path.{◌≡◌, sym, ◌∙◌}
-use Prim.Native.Nat.{◌≤◌, ◌-◌}
-use lib.ListN.{length, drop}
-use Rattle.checksum.specs.Crc32c.{run}
+use mathlib.Core.Path.{sym, ◌∙◌}
 use Rattle.checksum.proofs.Loops.{run_next, run_end}
 use Rattle.checksum.proofs.bit_run.Goals as goal
 

@@ -1,9 +1,7 @@
-use borrow.Author.Rules.{rules}
-use mathlib.Core.Path.{◌≡◌, sym, ◌∙◌}
+use mathlib.Core.Path.{◌≡◌}
 use Prim.Native.Nat.{◌≤◌, ◌-◌}
 use lib.ListN.{length, drop}
 use Rattle.checksum.specs.Crc32c.{run}
-use Rattle.checksum.proofs.Loops.{run_next, run_end}
 use Rattle.checksum.proofs.bit_run.Given as goal
 
 abbrev pub invariant-loop-i : goal.invariant-loop-i

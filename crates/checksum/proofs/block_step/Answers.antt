@@ -1,4 +1,3 @@
-use borrow.Author.Rules.{rules}
 use Rattle.checksum.specs.Table.{block_with}
 use Rattle.wire.proofs.Fields.{rest}
 use Rattle.checksum.proofs.block_step.Goals as goal

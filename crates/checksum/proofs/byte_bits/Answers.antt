@@ -1,7 +1,6 @@
 use borrow.Author.Rules.{rules}
-use mathlib.Core.Path.{◌≡◌, ◌∙◌}
-use Prim.Native.Nat.{◌≤◌}
-use Rattle.checksum.specs.Crc32c.{steps, byte_step}
+use mathlib.Core.Path.{◌∙◌}
+use Rattle.checksum.specs.Crc32c.{byte_step}
 use Rattle.checksum.proofs.Loops.{one_less, none_left}
 use Rattle.checksum.proofs.byte_bits.Goals as goal
 

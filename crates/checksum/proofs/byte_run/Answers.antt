@@ -1,8 +1,5 @@
 use borrow.Author.Rules.{rules}
-use mathlib.Core.Path.{◌≡◌, sym, ◌∙◌}
-use Prim.Native.Nat.{◌≤◌, ◌-◌}
-use lib.ListN.{length, drop}
-use Rattle.checksum.specs.Table.{bytes_with}
+use mathlib.Core.Path.{sym, ◌∙◌}
 use Rattle.checksum.proofs.Loops.{bytes_next, bytes_end}
 use Rattle.checksum.proofs.byte_run.Goals as goal
 

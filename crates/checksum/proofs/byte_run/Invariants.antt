@@ -1,9 +1,7 @@
-use borrow.Author.Rules.{rules}
-use mathlib.Core.Path.{◌≡◌, sym, ◌∙◌}
+use mathlib.Core.Path.{◌≡◌}
 use Prim.Native.Nat.{◌≤◌, ◌-◌}
 use lib.ListN.{length, drop}
 use Rattle.checksum.specs.Table.{bytes_with}
-use Rattle.checksum.proofs.Loops.{bytes_next, bytes_end}
 use Rattle.checksum.proofs.byte_run.Given as goal
 
 abbrev pub invariant-loop-i : goal.invariant-loop-i

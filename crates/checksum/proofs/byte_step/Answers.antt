@@ -1,4 +1,3 @@
-use borrow.Author.Rules.{rules}
 use Rattle.checksum.specs.Table.{byte_step_with}
 use Rattle.checksum.proofs.byte_step.Goals as goal
 

@@ -1,4 +1,3 @@
-use borrow.Author.Rules.{rules}
 use Rattle.checksum.specs.Crc32c.{crc32c}
 use Rattle.checksum.proofs.crc32c.Goals as goal
 

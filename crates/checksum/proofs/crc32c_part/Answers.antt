@@ -1,8 +1,5 @@
 use borrow.Author.Rules.{rules}
-use mathlib.Core.Path.{◌≡◌, ◌∙◌}
-use Prim.Native.Nat.{◌≤◌, ◌-◌}
-use lib.ListN.{length, drop}
-use Rattle.checksum.specs.Table.{run_with}
+use mathlib.Core.Path.{◌∙◌}
 use Rattle.wire.proofs.Fields.{rest}
 use Rattle.checksum.proofs.ByTable.{run_next_block, run_rest, part_with}
 use Rattle.checksum.proofs.crc32c_part.Goals as goal

@@ -1,10 +1,7 @@
-use borrow.Author.Rules.{rules}
-use mathlib.Core.Path.{◌≡◌, ◌∙◌}
+use mathlib.Core.Path.{◌≡◌}
 use Prim.Native.Nat.{◌≤◌, ◌-◌}
 use lib.ListN.{length, drop}
 use Rattle.checksum.specs.Table.{run_with}
-use Rattle.wire.proofs.Fields.{rest}
-use Rattle.checksum.proofs.ByTable.{run_next_block, run_rest, part_with}
 use Rattle.checksum.proofs.crc32c_part.Given as goal
 
 abbrev pub invariant-loop-i : goal.invariant-loop-i

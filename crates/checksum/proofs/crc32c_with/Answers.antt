@@ -1,4 +1,3 @@
-use borrow.Author.Rules.{rules}
 use Rattle.checksum.proofs.ByTable.{checksum_with}
 use Rattle.checksum.proofs.crc32c_with.Goals as goal
 

@@ -1,4 +1,3 @@
-use borrow.Author.Rules.{rules}
 use Rattle.checksum.specs.Fmix32.{fmix32}
 use Rattle.checksum.proofs.fmix32.Goals as goal
 

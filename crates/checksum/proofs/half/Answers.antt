@@ -1,4 +1,3 @@
-use borrow.Author.Rules.{rules}
 use native.Mathlib.Omega.{arith}
 use Rattle.checksum.proofs.Words.{four_bytes}
 use Rattle.checksum.proofs.half.Goals as goal

@@ -1,4 +1,3 @@
-use borrow.Author.Rules.{rules}
 use Rattle.checksum.proofs.ByTable.{eight_lanes}
 use Rattle.checksum.proofs.lanes.Goals as goal
 

@@ -1,4 +1,4 @@
-use mathlib.Core.Path.{◌≡◌, refl, ◌∙◌}
+use mathlib.Core.Path.{refl, ◌∙◌}
 use mathlib.Core.List.{map}
 use Rattle.checksum.specs.Crc32c.{bit_step, steps}
 use Rattle.checksum.proofs.Rows.{spanned, spanned_rows, powers, spanned_table}

@@ -1,4 +1,3 @@
-use borrow.Author.Rules.{rules}
 use Rattle.wire.proofs.Fields.{rest}
 use Rattle.checksum.proofs.Words.{eight_bytes}
 use Rattle.checksum.proofs.word.Goals as goal
