@@ -1,0 +1,7 @@
+use borrow.Author.Rules.{rules}
+use Rattle.image.specs.Image.{flag_in}
+use Rattle.image.proofs.slot_flag.Goals as goal
+
+pub returns : goal.returns
+unfolding flag_in
+returns c = c.number.ensures.is

@@ -1,0 +1,10 @@
+use borrow.Author.Rules.{rules}
+use mathlib.Core.Path.{ap₂, ◌∙◌}
+use lib.ListN.{take}
+use Rattle.wire.specs.Fill.{field}
+use Rattle.image.specs.Image.{value_in}
+use Rattle.image.proofs.slot_value.Goals as goal
+
+pub returns : goal.returns
+unfolding value_in field
+returns c = c.part-2.ensures ∙ ap₂ take c.number-n.ensures.is c.part.ensures
