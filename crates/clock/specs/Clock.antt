@@ -1,5 +1,5 @@
 -- The clock's steps.
-use Rattle.std.specs.Prelude.{ℕ, ◌+◌, ◌^◌, max, cond, ◌||◌, ltb, leb, eqb}
+use Rattle.std.specs.Prelude.{ℕ, ◌+◌, max, cond, ◌||◌, ltb, leb, eqb}
 use Rattle.entry.specs.declared.Stamp.{Stamp}
 use Rattle.entry.specs.Entry.{bad_time}
 use Rattle.clock.specs.declared.Clock.{Clock}

@@ -1,4 +1,3 @@
-use borrow.Author.Rules.{rules}
 use native.Mathlib.Omega.{arith}
 use mathlib.Core.Path.{sym, ap, ◌∙◌}
 use Rattle.image.specs.Layout.{slot_start}
@@ -36,7 +35,7 @@ returns c =
     let n = c.slot_count-slots in
     let u = c.used_count in
     sym (zero_test _ _ _ c.all_zero.ensures c.part.ensures) ∙ shaped_by_rest s (λ i. (c.type_inv.store i).fits)
-    (omega (arith, n.ensures.0, c.if-slots-lt1.false)) (omega (arith, n.ensures.0, c.if-slots-gt-MAX_SLOTS.false))
-    (omega (arith, n.ensures.0, u.ensures.0, c.if-slots-used_count.false))
-    (c.if-store-slots.false ∙ ap slot_start n.ensures.0) (sym c.number.ensures.is ∙ c.if-number.false)
+    (omega (arith, n.ensures.is, c.if-slots-lt1.false)) (omega (arith, n.ensures.is, c.if-slots-gt-MAX_SLOTS.false))
+    (omega (arith, n.ensures.is, u.ensures.is, c.if-slots-used_count.false))
+    (c.if-store-slots.false ∙ ap slot_start n.ensures.is) (sym c.number.ensures.is ∙ c.if-number.false)
     (sym c.number-2.ensures.is ∙ c.if-number-2.false)

@@ -1,4 +1,3 @@
-use borrow.Author.Rules.{rules}
 use mathlib.Core.Path.{◌∙◌}
 use Rattle.image.proofs.Soundness.{bad_length, bad_klen, bad_vlen, bad_verdict, good_verdict}
 use Rattle.image.proofs.is_sound_slot.Goals as goal
@@ -20,17 +19,16 @@ returns-in_default c =
     c.slot_stamp.ensures _ c.judge-verdict.ensures _ c.in_default.is
 
 pub is_sealed-requires : goal.is_sealed-requires
-is_sealed-requires c =
-    (
-      c.requires,
-      record {
-        long = c.if-slot-ne-SLOT_WIDTH.false;
-        key = c.number-klen.ensures.is;
-        value = c.number-vlen.ensures.is;
-        key_fits = c.if-klen-gt-MAX_KEY.false;
-        value_fits = c.if-vlen-gt-MAX_VALUE.false;
-      },
-    )
+is_sealed-requires c = (
+  c.requires,
+  record {
+    long = c.if-slot-ne-SLOT_WIDTH.false;
+    key = c.number-klen.ensures.is;
+    value = c.number-vlen.ensures.is;
+    key_fits = c.if-klen-gt-MAX_KEY.false;
+    value_fits = c.if-vlen-gt-MAX_VALUE.false;
+  },
+)
 
 pub returns : goal.returns
 returns c =

@@ -1,9 +1,7 @@
-use borrow.Author.Rules.{rules}
 use native.Mathlib.Omega.{arith}
 use mathlib.Core.Path.{◌≡◌, refl, sym, ap, ◌∙◌}
 use mathlib.Core.Bool.{false}
-use Prim.Native.Nat.{◌-◌, ◌≤◌, ◌<◌}
-use lib.ListN.{drop}
+use Prim.Native.Nat.{◌-◌, ◌<◌}
 use Rattle.wire.specs.declared.Comparison.TheVariants.{Below}
 use Rattle.image.specs.Image.{ascending, entries_of, used_of, key_in}
 use Rattle.image.specs.Slot.{slot_at}

@@ -1,14 +1,7 @@
-use borrow.Author.Rules.{rules}
-use native.Mathlib.Omega.{arith}
-use mathlib.Core.Path.{◌≡◌, refl, sym, ap, ◌∙◌}
-use mathlib.Core.Bool.{false}
-use Prim.Native.Nat.{◌-◌, ◌≤◌, ◌<◌}
+use mathlib.Core.Path.{◌≡◌}
+use Prim.Native.Nat.{◌-◌, ◌≤◌}
 use lib.ListN.{drop}
-use Rattle.wire.specs.declared.Comparison.TheVariants.{Below}
-use Rattle.image.specs.Image.{ascending, entries_of, used_of, key_in}
-use Rattle.image.specs.Slot.{slot_at}
-use Rattle.wire.proofs.Compared.{same_not_below, above_not_below}
-use Rattle.image.proofs.Soundness.{keys_next, keys_bad, keys_end}
+use Rattle.image.specs.Image.{ascending, entries_of}
 use Rattle.image.proofs.keys_ascend.Given as goal
 
 abbrev pub invariant-loop-i : goal.invariant-loop-i

@@ -1,4 +1,3 @@
-use borrow.Author.Rules.{rules}
 use Rattle.image.specs.Image.{slots_of}
 use Rattle.image.proofs.slot_count.Goals as goal
 

@@ -1,4 +1,3 @@
-use borrow.Author.Rules.{rules}
 use Rattle.image.specs.Image.{flag_in}
 use Rattle.image.proofs.slot_flag.Goals as goal
 

@@ -1,4 +1,3 @@
-use borrow.Author.Rules.{rules}
 use mathlib.Core.Path.{ap₂, ◌∙◌}
 use lib.ListN.{take}
 use Rattle.wire.specs.Fill.{field}

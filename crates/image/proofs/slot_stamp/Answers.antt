@@ -1,4 +1,3 @@
-use borrow.Author.Rules.{rules}
 use Rattle.image.specs.Image.{stamp_in}
 use Rattle.image.proofs.slot_stamp.Goals as goal
 

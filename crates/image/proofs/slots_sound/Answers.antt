@@ -1,14 +1,10 @@
-use borrow.Author.Rules.{rules}
-use borrow.Author.Tests.{not-true, not-false}
 use native.Mathlib.Omega.{arith}
 use mathlib.Core.Path.{◌≡◌, sym, ap, ◌∙◌}
-use Prim.Native.Nat.{◌-◌, ◌<◌}
-use lib.ListN.{drop}
-use Rattle.image.specs.Layout.{header_width}
-use Rattle.image.specs.Check.{slot_sound, slots_sound}
+use Prim.Native.Nat.{◌<◌}
+use Rattle.image.specs.Check.{slot_sound}
 use Rattle.image.specs.Image.{used_of}
 use Rattle.image.specs.Slot.{slot_at}
-use Rattle.image.proofs.Soundness.{slots_left, run_none, run_next, run_bad, run_end}
+use Rattle.image.proofs.Soundness.{run_none, run_next, run_bad, run_end}
 use Rattle.image.proofs.slots_sound.Goals as goal
 
 pub loop-i-init : goal.loop-i-init

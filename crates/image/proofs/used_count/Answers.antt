@@ -1,4 +1,3 @@
-use borrow.Author.Rules.{rules}
 use Rattle.image.specs.Image.{used_of}
 use Rattle.image.proofs.used_count.Goals as goal
 

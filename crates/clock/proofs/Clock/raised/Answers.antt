@@ -1,4 +1,3 @@
-use borrow.Author.Rules.{rules}
 use borrow.Author.Tests.{le-leb, lt-leb}
 use Rattle.clock.specs.Clock.{raise}
 use Rattle.clock.proofs.Clock.raised.Goals as goal

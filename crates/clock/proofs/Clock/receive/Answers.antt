@@ -1,4 +1,3 @@
-use borrow.Author.Rules.{rules}
 use Rattle.clock.proofs.Answers.{receives_next, receives_refused}
 use Rattle.clock.proofs.Clock.receive.Goals as goal
 

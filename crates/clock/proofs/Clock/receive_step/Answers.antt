@@ -1,4 +1,3 @@
-use borrow.Author.Rules.{rules}
 use mathlib.Core.Path.{sym, ◌∙◌}
 use Rattle.clock.proofs.Steps.{receive_bad_now, receive_bad_clock, receive_bad_phys, receive_in_range_lem}
 use Rattle.clock.proofs.Clock.receive_step.Goals as goal

@@ -1,4 +1,3 @@
-use borrow.Author.Rules.{rules}
 use Rattle.clock.proofs.Answers.{sends_next, sends_refused}
 use Rattle.clock.proofs.Clock.send.Goals as goal
 

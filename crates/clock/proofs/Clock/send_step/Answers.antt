@@ -1,4 +1,3 @@
-use borrow.Author.Rules.{rules}
 use mathlib.Core.Path.{sym, ◌∙◌}
 use Rattle.clock.proofs.Steps.{send_bad_now, send_bad_clock, send_later, send_raised}
 use Rattle.clock.proofs.Clock.send_step.Goals as goal

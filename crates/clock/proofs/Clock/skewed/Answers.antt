@@ -1,4 +1,3 @@
-use borrow.Author.Rules.{rules}
 use borrow.Author.Tests.{le-leb, lt-leb}
 use Rattle.clock.specs.Clock.{with_skew}
 use Rattle.clock.proofs.Clock.skewed.Goals as goal

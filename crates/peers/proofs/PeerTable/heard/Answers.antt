@@ -32,10 +32,9 @@ pub returns-in-Refused : goal.returns-in-Refused
 unfolding after_heard
 returns-in-Refused c =
     let a = c.args in
-    let w = c.answer-1.given in
-    refused_gives c.refused.result a.self (with_rows (on_row a.id (heard_row a.incarnation a.now)) a.self) (number w.0.0)
-    (heard_answer a.id a.incarnation a.now a.self) c.refused.ensures (number_not_0 w.0.0)
-    (sym (ap answer_number w.1) ∙ c.judge-answer.ensures ∙ heard_is a.id a.incarnation a.now a.self)
+    refused_gives c.refused.result a.self (with_rows (on_row a.id (heard_row a.incarnation a.now)) a.self) (number c.in-Refused.why)
+    (heard_answer a.id a.incarnation a.now a.self) c.refused.ensures (number_not_0 c.in-Refused.why)
+    (sym (ap answer_number c.in-Refused.is) ∙ c.judge-answer.ensures ∙ heard_is a.id a.incarnation a.now a.self)
 
 pub returns-in-Done : goal.returns-in-Done
 unfolding after_heard

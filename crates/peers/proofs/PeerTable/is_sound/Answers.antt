@@ -1,3 +1,4 @@
+use native.Mathlib.Omega.{arith}
 use borrow.Author.Rules.{rules}
 use borrow.Author.Tests.{not-true, not-false}
 use mathlib.Core.Path.{◌≡◌, sym, ◌∙◌}
@@ -13,18 +14,18 @@ returns-then-self-gt-MAX_ROWS c = sound-over c.args.self c.if-self-gt-MAX_ROWS.t
 
 pub returns-then-not-ids_are_distinct : goal.returns-then-not-ids_are_distinct
 returns-then-not-ids_are_distinct c =
-    let ten : length c.args.self.rows ≡ 10 = simp length-map at c.well_formed.0.1.1.0.1.0.1 in
+    let ten : length c.args.self.rows ≡ 10 = omega arith in
     sound_twice c.args.self ten c.if-self-eq0.false c.if-self-gt-MAX_ROWS.false (sym c.ids_are_distinct.ensures ∙ c.if-not-ids_are_distinct.true)
 
 pub returns-then-own-ne-ALIVE : goal.returns-then-own-ne-ALIVE
 returns-then-own-ne-ALIVE c =
-    let ten : length c.args.self.rows ≡ 10 = simp length-map at c.well_formed.0.1.1.0.1.0.1 in
+    let ten : length c.args.self.rows ≡ 10 = omega arith in
     sound_dead c.args.self ten c.if-self-eq0.false c.if-self-gt-MAX_ROWS.false (sym c.ids_are_distinct.ensures ∙ c.if-not-ids_are_distinct.false)
     c.if-own-ne-ALIVE.true
 
 pub returns : goal.returns
 returns c =
-    let ten : length c.args.self.rows ≡ 10 = simp length-map at c.well_formed.0.1.1.0.1.0.1 in
+    let ten : length c.args.self.rows ≡ 10 = omega arith in
     c.rows_are_in_range.ensures
     ∙ sound-range c.args.self ten c.if-self-eq0.false c.if-self-gt-MAX_ROWS.false (sym c.ids_are_distinct.ensures ∙ c.if-not-ids_are_distinct.false)
     c.if-own-ne-ALIVE.false

@@ -1,0 +1,15 @@
+use borrow.Author.Rules.{rules}
+use native.Mathlib.Omega.{arith}
+use mathlib.Core.Path.{◌≡◌, refl, ap, ◌∙◌}
+use mathlib.Core.List.{◌++◌}
+use Prim.Native.Nat.{ℕ, ◌+◌, ◌-◌, ◌≤◌}
+use lib.ListN.{length, take, drop, length-set}
+use Rattle.image.specs.Layout.{slot_width}
+use Rattle.store.proofs.Closing.{down_step, down_done}
+use Rattle.store.proofs.clear.shift_down.Given as goal
+
+abbrev pub invariant-loop-i : goal.invariant-loop-i
+invariant-loop-i l = (l.part ≡ take l.i (drop slot_width l.initial.part) ++ drop l.i l.initial.part) × (l.i ≤ length l.initial.part - slot_width) × (length l.part ≡ length l.initial.part)
+
+abbrev pub decreases-loop-i : goal.decreases-loop-i
+decreases-loop-i l = l.moved - l.i

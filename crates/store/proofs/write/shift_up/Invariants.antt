@@ -1,0 +1,15 @@
+use borrow.Author.Rules.{rules}
+use native.Mathlib.Omega.{arith}
+use mathlib.Core.Path.{◌≡◌, refl}
+use mathlib.Core.List.{◌++◌}
+use Prim.Native.Nat.{◌+◌, ◌-◌, ◌≤◌}
+use lib.ListN.{length, take, drop, length-set}
+use Rattle.image.specs.Layout.{slot_width}
+use Rattle.store.proofs.Shifts.{shift_none, shift_step}
+use Rattle.store.proofs.write.shift_up.Given as goal
+
+abbrev pub invariant-loop-i : goal.invariant-loop-i
+invariant-loop-i l = (l.part ≡ take (l.i + slot_width) l.initial.part ++ drop l.i (take (length l.initial.part - slot_width) l.initial.part)) × (l.i ≤ length l.initial.part - slot_width) × (length l.part ≡ length l.initial.part)
+
+abbrev pub decreases-loop-i : goal.decreases-loop-i
+decreases-loop-i l = l.i
