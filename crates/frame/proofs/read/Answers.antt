@@ -1,3 +1,4 @@
+use mathlib.Core.Logic.{⊎_elim}
 use borrow.Author.Rules.{rules}
 use native.Mathlib.Omega.{arith}
 use mathlib.Core.Path.{◌≡◌, refl, sym, ◌∙◌}
@@ -31,7 +32,7 @@ read_empty-requires c = c.in-16.is
 pub read_keyed-requires : goal.read_keyed-requires
 read_keyed-requires c =
     let holds : envelope_holds c.args.frame.now ≡ true = sym c.envelope_holds.ensures ∙ c.if-not-envelope_holds.false in
-    (frame_long _ holds, two_or_three _ (omega (arith, c.in_default-1.rest.0.0.0.0.1)) c.if-kind-lt4.true)
+    (frame_long _ holds, two_or_three _ (omega arith) (omega arith))
 
 pub returns-in-1 : goal.returns-in-1
 returns-in-1 c =
@@ -66,12 +67,11 @@ returns-in-2 c =
 pub returns-in_default : goal.returns-in_default
 returns-in_default c =
     let holds : envelope_holds c.args.frame.now ≡ true = sym c.envelope_holds.ensures ∙ c.if-not-envelope_holds.false in
-    let r = c.in_default-1.rest in
-    frame_unknown _ holds r.0.0.0.0.1 (λ e. omega arith) (λ e. omega arith) r.0.0.0.1 r.0.0.1 r.0.1 r.1
+    frame_unknown _ holds (λ e. omega arith) (λ e. omega arith) (λ e. omega arith) (λ e. omega arith)
+    (⊎_elim (λ e. omega arith) (λ e. omega arith)) (λ e. omega arith) (λ e. omega arith)
 
 pub returns-in_default-2 : goal.returns-in_default-2
 returns-in_default-2 c =
     let holds : envelope_holds c.args.frame.now ≡ true = sym c.envelope_holds.ensures ∙ c.if-not-envelope_holds.false in
-    let r = c.in_default-1.rest in
-    frame_unknown _ holds r.0.0.0.0.1 (λ e. omega arith) (λ e. omega arith) r.0.0.0.1 r.0.0.1 r.0.1
-    r.1
+    frame_unknown _ holds (λ e. omega arith) (λ e. omega arith) (λ e. omega arith) (λ e. omega arith)
+    (search rules) (λ e. omega arith) (λ e. omega arith)
