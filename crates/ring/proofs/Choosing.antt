@@ -13,7 +13,7 @@ use Rattle.peers.specs.declared.PeerTable.{PeerTable}
 use Rattle.peers.specs.declared.Admission.{Admission}
 use Rattle.peers.specs.Table.{sound_table}
 use Rattle.peers.specs.Admitted.{admits, admitted_flags}
-use Rattle.peers.proofs.Flags.{flag_at}
+use Rattle.peers.proofs.Flags.{flag_at_lem}
 use Rattle.wire.proofs.Tests.{or-false}
 use Rattle.ring.specs.Answer.{Answer, gives, refuses, written}
 use Rattle.ring.specs.Lists.{filter, firsts}

@@ -41,6 +41,10 @@ use Rattle.store.proofs.Splices.{opened}
 use Rattle.store.proofs.Placing.{placement_fits}
 use Rattle.store.proofs.OnSound.{ordered, all_placed, accepts_held, fits_held}
 
+-- what a call says and what it leaves, as its contract names them
+pub told_left : {A B : Type 0} → A × B → record { told : A; left : B }
+told_left p = record { told = p.0; left = p.1 }
+
 -- ---- a new store
 module _ (s : List ℕ) (c : ℕ) where
   pub create_few : c < 1 → (17 ≡ create_refusal s c) × (s ≡ after_create s c)

@@ -13,10 +13,6 @@ use Rattle.store.specs.Unchecked.{seen}
 use Rattle.store.proofs.Ways.{Counting, counting_none, counting_next, counting_end, one_most}
 use Rattle.store.proofs.count_new.Goals as goal
 
--- whether the giver's entry is below the line
-abbrev old : tie.After-slot-stamp invariant-loop decreases-loop → Bool
-old c = ltb c.slot-stamp.result.phys c.before.before.before.before.before.before.before.purge-line.result
-
 pub loop-j-init : goal.loop-j-init
 loop-j-init c = counting_none _ _ _
 
@@ -27,7 +23,7 @@ overflow_add-new c =
       c.used_count-used.ensures.small,
       c.loop-j-test.true,
       c.loop-j.invariant.new_most,
-      one_most c.seek-place.result.held (not (old c)) c.tally-new.result c.tally-new.ensures,
+      one_most c.seek-place.result.held (not (ltb c.slot_stamp-stamp.result.phys c.purge_line-line.result)) c.tally-new.result c.tally-new.ensures,
     )
 
 pub overflow_add-passed : goal.overflow_add-passed
@@ -37,7 +33,7 @@ overflow_add-passed c =
       c.used_count-used.ensures.small,
       c.loop-j-test.true,
       c.loop-j.invariant.passed_most,
-      one_most c.seek-place.result.held (old c) c.tally-passed.result c.tally-passed.ensures,
+      one_most c.seek-place.result.held (ltb c.slot_stamp-stamp.result.phys c.purge_line-line.result) c.tally-passed.result c.tally-passed.ensures,
     )
 
 pub overflow_add-j : goal.overflow_add-j

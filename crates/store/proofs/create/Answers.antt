@@ -1,3 +1,4 @@
+use Rattle.store.proofs.Ways.{told_left}
 use borrow.Author.Rules.{rules}
 use native.Mathlib.Omega.{arith}
 use mathlib.Core.Path.{◌≡◌, ◌∙◌}
@@ -15,24 +16,24 @@ use Rattle.store.proofs.create.Goals as goal
 
 pub returns-then-slots-lt1 : goal.returns-then-slots-lt1
 returns-then-slots-lt1 c =
-    let a = c.args in create_few a.buffer.now a.slots c.if-slots-lt1.true
+    told_left (let a = c.args in create_few a.buffer.now a.slots c.if-slots-lt1.true)
 
 pub returns-then-slots-gt-MAX_SLOTS : goal.returns-then-slots-gt-MAX_SLOTS
 returns-then-slots-gt-MAX_SLOTS c =
-    let a = c.args in create_many a.buffer.now a.slots c.if-slots-lt1.false c.if-slots-gt-MAX_SLOTS.true
+    told_left (let a = c.args in create_many a.buffer.now a.slots c.if-slots-lt1.false c.if-slots-gt-MAX_SLOTS.true)
 
 pub returns-then-n-slots : goal.returns-then-n-slots
 returns-then-n-slots c =
     let a = c.args in
-    create_size a.buffer.now a.slots c.if-slots-lt1.false c.if-slots-gt-MAX_SLOTS.false c.if-n-slots.true
+    told_left (create_size a.buffer.now a.slots c.if-slots-lt1.false c.if-slots-gt-MAX_SLOTS.false c.if-n-slots.true)
 
 pub returns : goal.returns
 returns c =
     let a = c.args in
     let s = a.buffer.now in
     let n : length s ≡ slot_start a.slots = c.if-n-slots.false in
-    let w1 = write_next (λ (w : ℕ). header a.slots 0 0) 0 header_width _ s _ _ (length-header _ _ _) (omega arith) (written_none s)
+    told_left (let w1 = write_next (λ (w : ℕ). header a.slots 0 0) 0 header_width _ s _ _ (length-header _ _ _) (omega arith) (written_none s)
     (c.put_header.ensures ∙ header_with_lem a.slots 0 0 _ (length-take-le header_width s (omega arith))) in
     let w2 = write_next zeros header_width (length s - header_width) _ s _ _ (length-zeros _) (omega arith) w1 (c.put_be.ensures ∙ be-zeros _) in
     create_done s a.slots c.if-slots-lt1.false c.if-slots-gt-MAX_SLOTS.false n _
-    (written_all (header_width + (length s - header_width)) _ s _ (omega arith) w2 ∙ fresh_bytes a.slots (length s - header_width) (omega arith))
+    (written_all (header_width + (length s - header_width)) _ s _ (omega arith) w2 ∙ fresh_bytes a.slots (length s - header_width) (omega arith)))

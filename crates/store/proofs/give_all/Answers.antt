@@ -41,7 +41,7 @@ loop-given-preserved c =
     let given : c.give.new.receiver ≡ written_at (placement l.receiver (slot_entry t)) (slot_bytes (slot_entry t)) l.receiver =
     c.give.ensures ∙ ap (λ (x : List ℕ). written_at (placement l.receiver (slot_entry x)) x l.receiver) c.slot.ensures
     ∙ ap (λ (w : List ℕ). written_at (placement l.receiver (slot_entry t)) w l.receiver) sealed-slot in
-    (give_next (entries_of g) l.given _ (entry_at l.given g used-slot) _ _ given ∙ l.invariant.0, c.give.auto.0 ∙ l.invariant.1)
+    (give_next (entries_of g) l.given _ (entry_at l.given g used-slot) _ _ given ∙ l.invariant.0, c.give.auto.receiver ∙ l.invariant.1)
 
 pub shape_of-receiver : goal.shape_of-receiver
 shape_of-receiver c = c.loop-given.invariant.1

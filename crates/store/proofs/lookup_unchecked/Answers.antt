@@ -19,13 +19,13 @@ pub returns-then-not-place : goal.returns-then-not-place
 returns-then-not-place c =
     let good_key : bad_key c.args.key.now ≡ false = opposite_false _ _ c.is_acceptable_key.ensures (ap not c.if-not-is_acceptable_key.false) in
     let a = c.args in
-    look_never a.store.now a.key.now good_key _ _ c.seek-place.ensures (c.if-not-place.true)
+    look_never a.store.now a.key.now good_key _ _ c.seek-place.ensures (not-true _ c.if-not-place.true)
 
 pub returns-then-slot_flag-eq-TOMBSTONE : goal.returns-then-slot_flag-eq-TOMBSTONE
 returns-then-slot_flag-eq-TOMBSTONE c =
     let good_key : bad_key c.args.key.now ≡ false = opposite_false _ _ c.is_acceptable_key.ensures (ap not c.if-not-is_acceptable_key.false) in
     let a = c.args in
-    look_deleted a.store.now a.key.now good_key _ _ c.seek-place.ensures (c.if-not-place.false) _
+    look_deleted a.store.now a.key.now good_key _ _ c.seek-place.ensures (not-false _ c.if-not-place.false) _
     (c.slot_flag.ensures ∙ ap flag_in c.slot-held.ensures) c.if-slot_flag-eq-TOMBSTONE.true
 
 pub overflow_mul-at : goal.overflow_mul-at
@@ -42,5 +42,5 @@ returns c =
     let good_key : bad_key c.args.key.now ≡ false = opposite_false _ _ c.is_acceptable_key.ensures (ap not c.if-not-is_acceptable_key.false) in
     let a = c.args in
     let slot = c.slot-held in
-    look_value a.store.now a.key.now good_key _ _ c.seek-place.ensures (c.if-not-place.false) _
+    look_value a.store.now a.key.now good_key _ _ c.seek-place.ensures (not-false _ c.if-not-place.false) _
     (c.slot_flag.ensures ∙ ap flag_in slot.ensures) c.if-slot_flag-eq-TOMBSTONE.false _ (c.slot_value-len.ensures ∙ ap value_in slot.ensures)

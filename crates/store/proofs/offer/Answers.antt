@@ -1,3 +1,4 @@
+use Rattle.store.proofs.Ways.{told_left}
 use borrow.Author.Rules.{rules}
 use borrow.Author.Tests.{not-true, not-false}
 use mathlib.Core.Path.{sym, ◌∙◌}
@@ -9,8 +10,8 @@ use Rattle.store.proofs.offer.Goals as goal
 pub returns-then-not-is_sound : goal.returns-then-not-is_sound
 returns-then-not-is_sound c =
     let a = c.args in
-    offer_5 a.store.now (entry_of a.key.now a.value.now a.flag a.stamp)
-    (sym c.is_sound.ensures ∙ c.if-not-is_sound.true)
+    told_left (offer_5 a.store.now (entry_of a.key.now a.value.now a.flag a.stamp)
+    (sym c.is_sound.ensures ∙ c.if-not-is_sound.true))
 
 pub returns : goal.returns
 returns c =

@@ -14,7 +14,7 @@ open_slot-requires c =
 pub write_entry-requires : goal.write_entry-requires
 write_entry-requires c =
     let f = insert_fits _ _ _ c.placement_of-placement.ensures _ c.in-Insert.is in
-    omega (arith, f.0, f.1, c.open_slot.auto.0)
+    omega (arith, f.0, f.1, c.open_slot.auto.store)
 
 pub write_entry-requires-in-Replace : goal.write_entry-requires-in-Replace
 write_entry-requires-in-Replace c =

@@ -1,3 +1,4 @@
+use Rattle.store.proofs.Ways.{told_left}
 use borrow.Author.Rules.{rules}
 use native.Mathlib.Omega.{arith}
 use mathlib.Core.Path.{◌≡◌, sym, ap, ◌∙◌}
@@ -26,7 +27,7 @@ pub loop-i-preserved-then-is_cleared : goal.loop-i-preserved-then-is_cleared
 loop-i-preserved-then-is_cleared c =
     let judged : c.is_cleared.result ≡ cleared c.args.line (slot_entry (slot_at (c.loop-i.i - 1) c.loop-i.store)) = let line = c.args.line in c.is_cleared.ensures ∙ ap (λ (t : List ℕ). cleared line (slot_entry t)) c.slot.ensures in
     clear_gone c.loop-i.invariant c.requires c.loop-i-test.true (sym judged ∙ c.if-is_cleared.true)
-    _ c.close_slot.ensures c.close_slot.auto.0
+    _ c.close_slot.ensures c.close_slot.auto.store
 
 pub loop-i-preserved : goal.loop-i-preserved
 loop-i-preserved c =
@@ -37,4 +38,4 @@ pub shape_of-store : goal.shape_of-store
 shape_of-store c = c.loop-i.invariant.long
 
 pub returns : goal.returns
-returns c = clear_end c.loop-i.invariant (omega (arith, c.loop-i-test.false))
+returns c = told_left (clear_end c.loop-i.invariant (omega (arith, c.loop-i-test.false)))

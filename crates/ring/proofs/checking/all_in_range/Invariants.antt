@@ -1,0 +1,14 @@
+use borrow.Author.Rules.{rules}
+use mathlib.Core.Path.{◌≡◌, sym, ◌∙◌}
+use Prim.Native.Nat.{◌≤◌, ◌-◌}
+use native.Mathlib.Omega.{arith}
+use lib.ListN.{length, drop}
+use Rattle.ring.specs.Sound.{in_range}
+use Rattle.ring.proofs.Scan.{range_next, range_high, range-vnode, range_end}
+use Rattle.ring.proofs.checking.all_in_range.Given as goal
+
+abbrev pub invariant-loop-i : goal.invariant-loop-i
+invariant-loop-i l = (l.i ≤ length l.ring) × (in_range (drop l.i l.ring) ≡ in_range l.ring)
+
+abbrev pub decreases-loop-i : goal.decreases-loop-i
+decreases-loop-i l = length l.ring - l.i
