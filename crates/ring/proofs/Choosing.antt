@@ -41,7 +41,7 @@ module _ (flags : List Bool) (peers : PeerTable) (a : Admission) (e : flags ≡ 
   taken_owners =
       w.taken
       ∙ ap (λ (l : List ℕ). take r (firsts l))
-      (filter_nodes (flagged flags) (admits a peers) (λ n h. ap (λ (t : List Bool). flagged t n) e ∙ flag_at a peers n h) (turned k ring))
+      (filter_nodes (flagged flags) (admits a peers) (λ n h. ap (λ (t : List Bool). flagged t n) e ∙ flag_at_lem a peers n h) (turned k ring))
       ∙ ap (λ (l : List ℕ). take r (firsts (filter (admits a peers) (map node l)))) (ap (λ (n : ℕ). turned n ring) s ∙ sym (around-turned x ring))
 
   count_owners : count ≡ length (owners_of (admits a peers) x r ring)

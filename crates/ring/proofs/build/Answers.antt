@@ -1,3 +1,4 @@
+use Rattle.ring.proofs.Answers.{answer_output}
 use borrow.Author.Rules.{rules}
 use mathlib.Core.Path.{◌≡◌, sym, ◌∙◌}
 use mathlib.Core.Bool.{false}
@@ -9,7 +10,7 @@ use Rattle.ring.proofs.Filling.{length-places, fit_640, tells, unfit, lacks_room
 use Rattle.ring.proofs.build.Goals as goal
 
 pub returns-then-bad_arguments : goal.returns-then-bad_arguments
-returns-then-bad_arguments c = tells _ _ _ _ (refuses 17) (unfit _ _ _ (sym c.bad_arguments.ensures ∙ c.if-bad_arguments.true))
+returns-then-bad_arguments c = answer_output (tells _ _ _ _ (refuses 17) (unfit _ _ _ (sym c.bad_arguments.ensures ∙ c.if-bad_arguments.true)))
 
 pub overflow_mul-places : goal.overflow_mul-places
 overflow_mul-places c =
@@ -19,7 +20,7 @@ overflow_mul-places c =
 pub returns-then-ring-places : goal.returns-then-ring-places
 returns-then-ring-places c =
     let fit : bad_arguments c.args.ids.now c.args.vnodes ≡ false = sym c.bad_arguments.ensures ∙ c.if-bad_arguments.false in
-    tells _ _ _ _ (refuses 4) (lacks_room _ _ _ fit c.if-ring-places.true)
+    answer_output (tells _ _ _ _ (refuses 4) (lacks_room _ _ _ fit c.if-ring-places.true))
 
 pub fill-requires : goal.fill-requires
 fill-requires c =
@@ -28,4 +29,4 @@ fill-requires c =
 pub returns : goal.returns
 returns c =
     let fit : bad_arguments c.args.ids.now c.args.vnodes ≡ false = sym c.bad_arguments.ensures ∙ c.if-bad_arguments.false in
-    is_built _ _ _ fit _ _ c.if-ring-places.false c.fill.ensures
+    answer_output (is_built _ _ _ fit _ _ c.if-ring-places.false c.fill.ensures)

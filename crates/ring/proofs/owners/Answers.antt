@@ -1,3 +1,4 @@
+use Rattle.ring.proofs.Answers.{answer_output}
 use borrow.Author.Rules.{rules}
 use borrow.Author.Tests.{not-true, not-false}
 use mathlib.Core.Path.{◌≡◌, sym, ◌∙◌}
@@ -14,13 +15,13 @@ use Rattle.ring.proofs.Choosing.{count_met, put_owners, at_most_3, says, unfit, 
 use Rattle.ring.proofs.owners.Goals as goal
 
 pub returns-then-bad_request : goal.returns-then-bad_request
-returns-then-bad_request c = says _ _ _ _ _ _ (refuses 17) (unfit _ _ _ _ _ (sym c.bad_request.ensures ∙ c.if-bad_request.true))
+returns-then-bad_request c = answer_output (says _ _ _ _ _ _ (refuses 17) (unfit _ _ _ _ _ (sym c.bad_request.ensures ∙ c.if-bad_request.true)))
 
 pub returns-then-not-is_sound : goal.returns-then-not-is_sound
 returns-then-not-is_sound c =
     let fit : bad_request c.args.peers c.args.count ≡ false = sym c.bad_request.ensures ∙ c.if-bad_request.false in
-    says _ _ _ _ _ _ (refuses 16)
-    (ring_unsound _ _ _ _ _ fit (sym c.is_sound.ensures ∙ c.if-not-is_sound.true))
+    answer_output (says _ _ _ _ _ _ (refuses 16)
+    (ring_unsound _ _ _ _ _ fit (sym c.is_sound.ensures ∙ c.if-not-is_sound.true)))
 
 pub walk-taken-requires : goal.walk-taken-requires
 walk-taken-requires c =
@@ -33,16 +34,16 @@ returns-then-met-wanted c =
     let fit : bad_request c.args.peers c.args.count ≡ false = sym c.bad_request.ensures ∙ c.if-bad_request.false in
     let sound : sound_ring c.args.ring.now ≡ true = sym c.is_sound.ensures ∙ c.if-not-is_sound.false in
     let counted : let a = c.args in c.walk-taken.result.count ≡ min a.count (admitted_with_place (admits a.admission a.peers) a.ring.now) = let a = c.args in count_met _ _ _ c.admitted-flags.ensures _ a.position _ _ _ _ c.start.ensures c.walk-taken.ensures (at_most_3 _ _ fit) in
-    says _ _ _ _ _ _ (refuses 10)
-    (too_few _ _ _ _ _ fit sound (omega (arith, counted)))
+    answer_output (says _ _ _ _ _ _ (refuses 10)
+    (too_few _ _ _ _ _ fit sound (omega (arith, counted))))
 
 pub returns-then-out-wanted : goal.returns-then-out-wanted
 returns-then-out-wanted c =
     let fit : bad_request c.args.peers c.args.count ≡ false = sym c.bad_request.ensures ∙ c.if-bad_request.false in
     let sound : sound_ring c.args.ring.now ≡ true = sym c.is_sound.ensures ∙ c.if-not-is_sound.false in
     let counted : let a = c.args in c.walk-taken.result.count ≡ min a.count (admitted_with_place (admits a.admission a.peers) a.ring.now) = let a = c.args in count_met _ _ _ c.admitted-flags.ensures _ a.position _ _ _ _ c.start.ensures c.walk-taken.ensures (at_most_3 _ _ fit) in
-    says _ _ _ _ _ _ (refuses 4)
-    (no_room _ _ _ _ _ fit sound (omega (arith, counted)) c.if-out-wanted.true)
+    answer_output (says _ _ _ _ _ _ (refuses 4)
+    (no_room _ _ _ _ _ fit sound (omega (arith, counted)) c.if-out-wanted.true))
 
 pub put-requires : goal.put-requires
 put-requires c =
@@ -57,6 +58,6 @@ returns c =
     let sound : sound_ring c.args.ring.now ≡ true = sym c.is_sound.ensures ∙ c.if-not-is_sound.false in
     let counted : let a = c.args in c.walk-taken.result.count ≡ min a.count (admitted_with_place (admits a.admission a.peers) a.ring.now) = let a = c.args in count_met _ _ _ c.admitted-flags.ensures _ a.position _ _ _ _ c.start.ensures c.walk-taken.ensures (at_most_3 _ _ fit) in
     let a = c.args in
-    all_written _ _ _ _ _ fit sound (omega (arith, counted)) _ _ c.if-out-wanted.false
+    answer_output (all_written _ _ _ _ _ fit sound (omega (arith, counted)) _ _ c.if-out-wanted.false
     (c.put.ensures
-    ∙ put_owners _ _ _ c.admitted-flags.ensures _ a.position _ _ _ _ c.start.ensures c.walk-taken.ensures (at_most_3 _ _ fit) a.out.now)
+    ∙ put_owners _ _ _ c.admitted-flags.ensures _ a.position _ _ _ _ c.start.ensures c.walk-taken.ensures (at_most_3 _ _ fit) a.out.now))

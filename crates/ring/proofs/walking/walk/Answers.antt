@@ -12,41 +12,42 @@ use Rattle.ring.specs.Helpers.{turned}
 use Rattle.ring.proofs.Meeting.{gather, gather_full, gather_end}
 use Rattle.ring.proofs.Meeting.{length_nodes, length-turned, turn-take, turn_skip, turn_end}
 use Rattle.ring.proofs.walking.walk.Goals as goal
+use Rattle.ring.proofs.walking.walk.Goals.{then-free-n, else-free-n}
 
 pub loop-j-init : goal.loop-j-init
 loop-j-init c = (search rules, search rules, search rules, search rules, rw sub-zero)
 
 pub bounds-nodes-count : goal.bounds-nodes-count
-bounds-nodes-count c = lt_of_lt_of_le (ltb-true _ _ c.if-count-r.true) c.requires.1
+bounds-nodes-count c = lt_of_lt_of_le c.if-count-r.true c.requires.1
 
 pub loop-j-preserved : goal.loop-j-preserved
 loop-j-preserved c =
     let l = c.loop-j in
     let a = c.args in
-    ⊎_elim
-    (λ w. (
+    elim c.if-free-n.branch [
+    | then-free-n w ↦ (
       search rules,
-      rw w.3 (omega (arith, ltb-true)),
-      rw (w.1, length-set) l.invariant.2,
-      rw (w.2, length-set) l.invariant.3,
-      rw (w.1, w.2, w.3)
+      rw w.count-is (omega arith),
+      rw (w.free-is, length-set) l.invariant.2,
+      rw (w.nodes-is, length-set) l.invariant.3,
+      rw (w.free-is, w.nodes-is, w.count-is)
           (turn-take (turned a.start a.ring.now) l.free l.nodes a.r l.count l.j c.place_at.result
           (rw (length-turned a.start a.ring.now c.requires.0) c.loop-j-test.true)
-          (ltb-true _ _ c.if-count-r.true) c.place_at.ensures (omega (arith, ltb-true)) w.0.taken
+          c.if-count-r.true c.place_at.ensures (omega arith) w.if-free-n.true
           ∙ l.invariant.4),
-    ))
-    (λ w. (
+    )
+    | else-free-n w ↦ (
       search rules,
-      rw w.3 (omega (arith, ltb-true)),
-      rw w.1 l.invariant.2,
-      rw w.2 l.invariant.3,
-      rw (w.1, w.2, w.3)
+      rw w.count-is (omega arith),
+      rw w.free-is l.invariant.2,
+      rw w.nodes-is l.invariant.3,
+      rw (w.free-is, w.nodes-is, w.count-is)
           (turn_skip (turned a.start a.ring.now) l.free l.nodes a.r l.count l.j c.place_at.result
           (rw (length-turned a.start a.ring.now c.requires.0) c.loop-j-test.true)
-          (ltb-true _ _ c.if-count-r.true) c.place_at.ensures w.0.left
+          c.if-count-r.true c.place_at.ensures w.if-free-n.false
           ∙ l.invariant.4),
-    ))
-    c.if-free-n.branch
+    )
+    ]
 
 pub returns-else-count-r : goal.returns-else-count-r
 returns-else-count-r c =
@@ -57,7 +58,7 @@ returns-else-count-r c =
       most = l.invariant.1;
       taken =
           turn_end (take l.count l.nodes) _ a.r a.flags (map node (turned a.start a.ring.now))
-          (gather_full (map node (turned a.start a.ring.now)) l.free a.r l.count l.j (ltb-false _ _ c.if-count-r.false))
+          (gather_full (map node (turned a.start a.ring.now)) l.free a.r l.count l.j c.if-count-r.false)
           l.invariant.4;
     }
 
