@@ -59,5 +59,5 @@ returns-in-Repl c =
 pub returns-in_default : goal.returns-in_default
 returns-in_default c =
     let a = c.args in
-    settled_as _ _ _ _ _ _ _ _ (no_request a.store.now a.clock a.time a.frame.now a.message c.in_default.keys5)
+    settled_as _ _ _ _ _ _ _ _ (no_request a.store.now a.clock a.time a.frame.now a.message c.in_default.in_default-own.keys5)
     (settled_refused _ _ _ _ _ _ _ refl c.refuse.ensures)

@@ -1,0 +1,5 @@
+use borrow.Author.Rules.{rules}
+use Rattle.capi_cluster.proofs.put_changed.Goals as goal
+
+pub returns : goal.returns
+returns c = record { told = c.noted.ensures; left = c.put_table.ensures }
