@@ -71,12 +71,13 @@ module _ (s : List ℕ) (ok : sound s ≡ true) where
     run_agrees : {b : Book} {w : Stores} (vs : List Event) → Given n vs → Agrees b w → Agrees (book_run t b vs) (run_events w vs)
     unfolding run_events book_run
     run_agrees [] g a = a
-    run_agrees (v ∷ vs) g a = run_agrees vs (given_tail n v vs g) (event_after v vs g a)
+    run_agrees {b = b} {w = w} (v ∷ vs) g a = run_agrees {b = book_then t b v} {w = after_event w v} vs (given_tail n v vs g) (event_after v vs g a)
 
     run-said : {b : Book} {w : Stores} (vs : List Event) → Given n vs → Agrees b w → all_said w vs ≡ book_says t b vs
     unfolding all_said book_says
     run-said [] g a = refl
-    run-said (v ∷ vs) g a = ap₂ ◌∷◌ (event_said v vs g a) (run-said vs (given_tail n v vs g) (event_after v vs g a))
+    run-said {b = b} {w = w} (v ∷ vs) g a =
+        ap₂ ◌∷◌ (event_said v vs g a) (run-said {b = book_then t b v} {w = after_event w v} vs (given_tail n v vs g) (event_after v vs g a))
 
     -- ---- the start
     all_start : Agrees (replicate n (entries_of s)) (copies n s)

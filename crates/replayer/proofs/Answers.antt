@@ -42,10 +42,10 @@ module _ (s : List ℕ) (c : Clock) (t : ℕ) (f b : List ℕ) where
   -- the same of a call
   module _ (h : Handled) (s' b' : List ℕ) (g : Handles s c t f b h s' b') where
     pub call_within : h.written ≤ length b'
-    call_within = rw (g.written-is, g.reply_is, reply_long) written_within
+    call_within = rw (g.written_is, g.reply_is, reply_long) written_within
 
     pub call_short : length (take (h.written - 0) b') ≤ max_frame
-    call_short = rw length-take (omega (arith, g.written-is, reply_at_most_600 s c t f b))
+    call_short = rw length-take (omega (arith, g.written_is, reply_at_most_600 s c t f b))
 
 module _ (k : Kept) (r : TimedFrame) where
   pub reply_short : length (reply_to k r) ≤ max_frame

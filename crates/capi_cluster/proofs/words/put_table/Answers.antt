@@ -41,7 +41,7 @@ loop-k-preserved c =
 pub shape_of-out : goal.shape_of-out
 shape_of-out c =
     let a = c.args in
-    written-length c.loop-k.invariant.2 (omega arith) ∙ length-set a.out.now 0 a.self.count
+    written-length c.loop-k.invariant.2 (omega arith) ∙ length-set a.out.now 0 a.table.count
 
 pub returns : goal.returns
 returns c =
