@@ -18,6 +18,10 @@ use Rattle.capi.specs.Handle.{handle_refusal, handle_length, handle_word, handle
 use Rattle.capi.specs.Meaning.{RefusedHandle}
 use Rattle.capi.proofs.Clocks.{clock_parts, clock_layout}
 
+-- what a call says and what it leaves, as its contract names them
+pub told_stored_moved_written : {A B C D : Type 0} → A × (B × (C × D)) → record { told : A; stored : B; moved : C; written : D }
+told_stored_moved_written p = record { told = p.0; stored = p.1.0; moved = p.1.1.0; written = p.1.1.1 }
+
 module _ (store w : List ℕ) (time : ℕ) (frame reply : List ℕ) (r : ℕ) where
   -- the result, and what is left of the store, of the clock's words and of the reply
   abbrev Left : List ℕ → List ℕ → List ℕ → Type 0

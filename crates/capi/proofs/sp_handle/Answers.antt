@@ -4,7 +4,7 @@ use mathlib.Core.Path.{sym, ◌∙◌}
 use borrow.Author.Tests.{not-true, not-false}
 use Rattle.node.proofs.Telling.{reply_at_most_600}
 use Rattle.capi.proofs.Clocks.{clock_parts}
-use Rattle.capi.proofs.Handles.{handle_no_clock, handle_clock_lem}
+use Rattle.capi.proofs.Handles.{told_stored_moved_written, handle_no_clock, handle_clock_lem}
 use Rattle.capi.proofs.sp_handle.Goals as goal
 
 pub returns-then-not-is_clock : goal.returns-then-not-is_clock
