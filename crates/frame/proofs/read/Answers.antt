@@ -3,7 +3,6 @@ use borrow.Author.Rules.{rules}
 use native.Mathlib.Omega.{arith}
 use mathlib.Core.Path.{◌≡◌, refl, sym, ◌∙◌}
 use mathlib.Core.Bool.{true}
-use borrow.Author.Tests.{not-true, not-false}
 use Rattle.frame.specs.Reading.{envelope_holds}
 use Rattle.frame.proofs.Answers.{two_or_three, frame_long, frame_read, frame_unknown, frame_bad}
 use Rattle.frame.proofs.read.Goals as goal

@@ -1,4 +1,3 @@
-use borrow.Author.Rules.{rules}
 use Rattle.frame.specs.Layout.{type_of, body, frame_of}
 use Rattle.frame.proofs.Bodies.{del_refusal}
 use Rattle.frame.proofs.write_del.Goals as goal

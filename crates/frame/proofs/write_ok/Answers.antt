@@ -1,4 +1,3 @@
-use borrow.Author.Rules.{rules}
 use Rattle.frame.specs.Message.{message_refusal, time_fault, key_fault, value_fault, argument_fault}
 use Rattle.frame.specs.Layout.{type_of, body, frame_of}
 use Rattle.frame.proofs.write_ok.Goals as goal

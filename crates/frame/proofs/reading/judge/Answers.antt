@@ -1,4 +1,3 @@
-use borrow.Author.Rules.{rules}
 use Rattle.frame.proofs.Answers.{on_bad_key, large_value, both_good}
 use mathlib.Core.Path.{ap}
 use mathlib.Core.Bool.{not}

@@ -1,4 +1,3 @@
-use borrow.Author.Rules.{rules}
 use mathlib.Core.Path.{◌∙◌}
 use Rattle.frame.proofs.Checks.{number_part}
 use Rattle.frame.proofs.reading.number_at.Goals as goal

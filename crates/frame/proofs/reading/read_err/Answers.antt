@@ -1,4 +1,3 @@
-use borrow.Author.Rules.{rules}
 use Rattle.frame.proofs.Answers.{err_left_over, err_zero, err_said}
 use Rattle.frame.proofs.reading.read_err.Goals as goal
 

@@ -1,8 +1,6 @@
-use borrow.Author.Rules.{rules}
 use native.Mathlib.Omega.{arith}
 use mathlib.Core.Path.{◌≡◌, refl, sym, ◌∙◌}
 use mathlib.Core.Bool.{true}
-use borrow.Author.Tests.{not-true, not-false}
 use Rattle.frame.specs.Reading.{value_ends}
 use Rattle.frame.proofs.Answers.{ends_length, value_left_over, value_large, value_said}
 use Rattle.frame.proofs.reading.read_value.Goals as goal

@@ -1,4 +1,3 @@
-use borrow.Author.Rules.{rules}
 use Rattle.frame.proofs.Checks.{ends_short, ends_by_length}
 use Rattle.frame.proofs.reading.value_ends.Goals as goal
 
