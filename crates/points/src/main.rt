@@ -5,82 +5,65 @@ use checksum::{crc32c, fmix32};
 use clock::{Clock, SendAnswer};
 use entry::Refusal;
 use frame::{MAX_FRAME, Wrote, write_get, write_not_found, write_value};
-use libc::STDOUT_FILENO;
+use std::io;
 
-fn print(text: &[u8]) {
-    io::write_all(STDOUT_FILENO, text);
+fn print_refusal(rt: &impl Print, refusal: Refusal) -> io::Result<()> {
+    let number = refusal.number();
+    print!(rt; "refusal {number}")
 }
 
-fn print_number(number: u64) {
-    io::print_decimal(STDOUT_FILENO, number);
+fn print_byte(rt: &impl Print, byte: u8) -> io::Result<()> {
+    print!(rt; "{byte:02x}")
 }
 
-fn print_refusal(refusal: Refusal) {
-    print(b"refusal ");
-    print_number(refusal.number() as u64);
-}
-
-fn print_byte(byte: u8) {
-    io::print_hex(STDOUT_FILENO, byte as u64, 2);
-}
-
-fn print_bytes(bytes: &[u8]) {
-    let mut i = 0;
-    while i < bytes.len() {
-        print_byte(bytes[i]);
-        i += 1;
+fn print_bytes(rt: &impl Print, bytes: &[u8]) -> io::Result<()> {
+    for byte in bytes {
+        print_byte(rt, *byte)?;
     }
-    print(b"\n");
+    println!(rt)
 }
 
-fn print_word(word: u32) {
-    io::print_hex(STDOUT_FILENO, word as u64, 8);
-    print(b"\n");
+fn print_word(rt: &impl Print, word: u32) -> io::Result<()> {
+    println!(rt; "{word:08x}")
 }
 
-fn print_checksum(name: &[u8], bytes: &[u8]) {
-    print(b"crc32c of ");
-    print(name);
-    print(b": ");
-    print_word(crc32c(bytes));
+fn print_checksum(rt: &impl Print, name: &str, bytes: &[u8]) -> io::Result<()> {
+    print!(rt; "crc32c of {name}: ")?;
+    print_word(rt, crc32c(bytes))
 }
 
 // RFC 3720, B.4; the last is its SCSI read command.
-fn print_checksums() {
-    print_checksum(b"32 bytes of 00", &[0u8; 32]);
-    print_checksum(b"32 bytes of ff", &[255u8; 32]);
+fn print_checksums(rt: &impl Print) -> io::Result<()> {
+    print_checksum(rt, "32 bytes of 00", &[0u8; 32])?;
+    print_checksum(rt, "32 bytes of ff", &[255u8; 32])?;
     print_checksum(
-        b"00 to 1f",
+        rt,
+        "00 to 1f",
         b"\x00\x01\x02\x03\x04\x05\x06\x07\x08\x09\x0a\x0b\x0c\x0d\x0e\x0f\x10\x11\x12\x13\x14\x15\x16\x17\x18\x19\x1a\x1b\x1c\x1d\x1e\x1f",
-    );
+    )?;
     print_checksum(
-        b"1f to 00",
+        rt,
+        "1f to 00",
         b"\x1f\x1e\x1d\x1c\x1b\x1a\x19\x18\x17\x16\x15\x14\x13\x12\x11\x10\x0f\x0e\x0d\x0c\x0b\x0a\x09\x08\x07\x06\x05\x04\x03\x02\x01\x00",
-    );
+    )?;
     print_checksum(
-        b"the read command",
+        rt,
+        "the read command",
         b"\x01\xc0\x00\x00\x00\x00\x00\x00\x00\x00\x00\x00\x00\x00\x00\x00\x14\x00\x00\x00\x00\x00\x04\x00\x00\x00\x00\x14\x00\x00\x00\x18\x28\x00\x00\x00\x00\x00\x00\x00\x02\x00\x00\x00\x00\x00\x00\x00",
-    );
+    )
 }
 
-fn print_clock(clock: Clock) {
+fn print_clock(rt: &impl Print, clock: Clock) -> io::Result<()> {
+    let phys = clock.phys;
     let logical = clock.logical;
     let node = clock.node;
     let skew = clock.skew;
-    print(b", clock ");
-    print_number(clock.phys);
-    print(b" ");
-    print_number(logical as u64);
-    print(b" ");
-    print_number(node as u64);
-    print(b" ");
-    print_number(skew as u64);
-    print(b"\n");
+    println!(rt; ", clock {phys} {logical} {node} {skew}")
 }
 
 // With the clock that is handed back, which shows the one that came in.
-fn print_send_at_p() {
-    print(b"clock at L = 65535, send at P: ");
+fn print_send_at_p(rt: &impl Print) -> io::Result<()> {
+    print!(rt; "clock at L = 65535, send at P: ")?;
     let clock = Clock {
         phys: 1000,
         logical: 65535,
@@ -88,79 +71,72 @@ fn print_send_at_p() {
         skew: 0,
     };
     let sent = clock.send(clock.phys);
-    let answer = sent.answer;
-    match answer {
-        SendAnswer::Stamped(_) => print(b"a stamp"),
-        SendAnswer::Refused(refusal) => print_refusal(refusal),
+    match sent.answer {
+        SendAnswer::Stamped(_) => print!(rt; "a stamp")?,
+        SendAnswer::Refused(refusal) => print_refusal(rt, refusal)?,
     }
-    print_clock(sent.clock);
+    print_clock(rt, sent.clock)
 }
 
 // What a writer answered, and the checksum of the whole buffer that it was lent.
-fn print_wrote(wrote: Wrote, out: &[u8]) {
+fn print_wrote(rt: &impl Print, wrote: Wrote, out: &[u8]) -> io::Result<()> {
     match wrote {
-        Wrote::Bytes(n) => {
-            print_number(n as u64);
-            print(b" bytes");
-        }
-        Wrote::Refused(refusal) => print_refusal(refusal),
+        Wrote::Bytes(n) => print!(rt; "{n} bytes")?,
+        Wrote::Refused(refusal) => print_refusal(rt, refusal)?,
     }
-    print(b", buffer ");
-    print_word(crc32c(out));
+    print!(rt; ", buffer ")?;
+    print_word(rt, crc32c(out))
 }
 
-fn print_get() {
+fn print_get(rt: &impl Print) -> io::Result<()> {
     let mut out = [0u8; MAX_FRAME];
-    print(b"get k1: ");
-    print_wrote(write_get(b"k1", &mut out), &out);
-    print_bytes(&out[0..11]);
+    print!(rt; "get k1: ")?;
+    print_wrote(rt, write_get(b"k1", &mut out), &out)?;
+    print_bytes(rt, &out[0..11])
 }
 
-fn print_not_found() {
+fn print_not_found(rt: &impl Print) -> io::Result<()> {
     let mut out = [0u8; MAX_FRAME];
-    print(b"not found: ");
-    print_wrote(write_not_found(&mut out), &out);
-    print_bytes(&out[0..8]);
+    print!(rt; "not found: ")?;
+    print_wrote(rt, write_not_found(&mut out), &out)?;
+    print_bytes(rt, &out[0..8])
 }
 
-fn print_length(name: &[u8], n: usize) {
-    print(name);
-    print(b" of ");
-    print_number(n as u64);
-    print(b": ");
+fn print_length(rt: &impl Print, name: &str, n: usize) -> io::Result<()> {
+    print!(rt; "{name} of {n}: ")
 }
 
-fn print_value(value: &[u8]) {
+fn print_value(rt: &impl Print, value: &[u8]) -> io::Result<()> {
     let mut out = [0u8; MAX_FRAME];
-    print_length(b"value", value.len());
-    print_wrote(write_value(value, &mut out), &out);
+    print_length(rt, "value", value.len())?;
+    print_wrote(rt, write_value(value, &mut out), &out)
 }
 
-fn print_key(key: &[u8]) {
+fn print_key(rt: &impl Print, key: &[u8]) -> io::Result<()> {
     let mut out = [0u8; MAX_FRAME];
-    print_length(b"key", key.len());
-    print_wrote(write_get(key, &mut out), &out);
+    print_length(rt, "key", key.len())?;
+    print_wrote(rt, write_get(key, &mut out), &out)
 }
 
-fn print_limits() {
+fn print_limits(rt: &impl Print) -> io::Result<()> {
     let value = [118u8; 513];
-    print_value(&value[0..512]);
-    print_value(&value);
+    print_value(rt, &value[0..512])?;
+    print_value(rt, &value)?;
     let key = [107u8; 65];
-    print_key(&key[0..64]);
-    print_key(&key);
+    print_key(rt, &key[0..64])?;
+    print_key(rt, &key)
 }
 
-fn print_mixed() {
-    print(b"fmix32(0): ");
-    print_word(fmix32(0));
+fn print_mixed(rt: &impl Print) -> io::Result<()> {
+    print!(rt; "fmix32(0): ")?;
+    print_word(rt, fmix32(0))
 }
 
-fn main() {
-    print_checksums();
-    print_send_at_p();
-    print_get();
-    print_not_found();
-    print_limits();
-    print_mixed();
+fn main(rt: HostRuntime) -> io::Result<()> {
+    print_checksums(&rt)?;
+    print_send_at_p(&rt)?;
+    print_get(&rt)?;
+    print_not_found(&rt)?;
+    print_limits(&rt)?;
+    print_mixed(&rt)
 }

@@ -9,8 +9,8 @@ ghost use Rattle.replay.specs.State.{Fits, Refilled, past_call, CanGoOn, GoesOn,
 
 use clock::Clock;
 use image::layout::MAX_SLOTS;
-use libc::{STDIN_FILENO, STDOUT_FILENO};
 use replayer::{Next, Progress, advance};
+use std::io::{Read, Write};
 
 // Input bytes from `at` to `end` are not yet taken. `ended` says that no more follow.
 #[derive(Clone, Copy)]
@@ -37,24 +37,23 @@ fn move_to_front(buffer: &mut [u8], at: usize, end: usize)
 }
 
 // Reads more input behind the first `kept` bytes, which stay, and answers how many bytes came.
-// There is room for one, so 0 is the end.
-fn read_more(input: &mut [u8], kept: usize) -> usize
+// There is room for one, so 0 is the end. A read that fails counts as the end.
+fn read_more<R: Read>(reader: &mut R, input: &mut [u8], kept: usize) -> usize
     requires { kept < length input.old }
     ensures counted { result + kept ≤ length input.old }
     ensures left { take kept input.new ≡ take kept input.old }
 {
-    let got = libc::read(STDIN_FILENO, &mut input[kept..]);
-    io::count(got, &input[kept..])
+    reader.read(&mut input[kept..]).unwrap_or(0)
 }
 
 // Reads on behind the bytes from `at` to `end`, which are moved to the front.
-fn refill(input: &mut [u8], clock: Clock, at: usize, end: usize) -> State
+fn refill<R: Read>(reader: &mut R, input: &mut [u8], clock: Clock, at: usize, end: usize) -> State
     requires { (at ≤ end) × (end ≤ length input.old) × (end - at < length input.old) }
     ensures { Refilled input.old clock at end result input.new }
 {
     let kept = end - at;
     move_to_front(input, at, end);
-    let got = read_more(input, kept);
+    let got = read_more(reader, input, kept);
     State {
         clock,
         at: 0,
@@ -80,20 +79,28 @@ fn past(state: State, progress: Progress, going: bool) -> State
 }
 
 // Does what a call asks for once its replies are written.
-fn go_on(input: &mut [u8], state: State, progress: Progress) -> State
+fn go_on<R: Read>(reader: &mut R, input: &mut [u8], state: State, progress: Progress) -> State
     requires { CanGoOn input.old state progress }
     ensures { GoesOn progress.next input.old state progress result input.new }
 {
     let next = progress.next;
     match next {
-        Next::Read => refill(input, progress.clock, state.at + progress.taken, state.end),
+        Next::Read => refill(
+            reader,
+            input,
+            progress.clock,
+            state.at + progress.taken,
+            state.end,
+        ),
         Next::Write => past(state, progress, true),
         Next::Stop => past(state, progress, false),
     }
 }
 
 // Answers what has come, writes the replies, and then goes on. A write that fails ends the replay.
-fn turn(
+fn turn<R: Read, W: Write>(
+    reader: &mut R,
+    writer: &mut W,
     store: &mut [u8],
     reply: &mut [u8],
     input: &mut [u8],
@@ -117,19 +124,19 @@ fn turn(
         output,
     );
     let filled = progress.filled;
-    if io::write_all(STDOUT_FILENO, &output[0..filled]) {
-        return go_on(input, state, progress);
+    if writer.write_all(&output[0..filled]).is_ok() {
+        return go_on(reader, input, state, progress);
     }
     past(state, progress, false)
 }
 
-// A proved loop has to end, and nothing says that the input does, so the turns are counted down
-// from a number that no run uses up.
-fn run(store: &mut [u8], reply: &mut [u8])
+// A proved loop has to end, and nothing says that the input does, so the turns are counted,
+// up to a number that no run reaches.
+fn run<R: Read, W: Write>(reader: &mut R, writer: &mut W, store: &mut [u8], reply: &mut [u8])
     requires { (store.old ≡ start.store) × (reply.old ≡ start.reply) }
 {
-    let mut input = io::large_buffer();
-    let mut output = io::large_buffer();
+    let mut input = [0; 65536];
+    let mut output = [0; 65536];
     let mut state = State {
         clock: Clock::fresh(1),
         at: 0,
@@ -137,16 +144,17 @@ fn run(store: &mut [u8], reply: &mut [u8])
         ended: false,
         going: true,
     };
-    let mut turns = u64::MAX;
-    while turns > 0 && state.going {
-        state = turn(store, reply, &mut input, &mut output, state);
-        turns -= 1;
+    for _ in 0..u64::MAX {
+        if !state.going {
+            break;
+        }
+        state = turn(reader, writer, store, reply, &mut input, &mut output, state);
     }
 }
 
-fn main() {
+fn main(rt: HostRuntime) {
     let mut store = [0; 59616];
     let mut reply = [0; 600];
     store::create(&mut store, MAX_SLOTS);
-    run(&mut store, &mut reply);
+    run(&mut rt.stdin(), &mut rt.stdout(), &mut store, &mut reply);
 }
