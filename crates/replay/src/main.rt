@@ -27,13 +27,7 @@ fn move_to_front(buffer: &mut [u8], at: usize, end: usize)
     requires { (at ≤ end) × (end ≤ length buffer.old) }
     ensures { buffer.new ≡ take (end - at) (drop at buffer.old) ++ drop (end - at) buffer.old }
 {
-    let mut from = at;
-    let mut to = 0;
-    while from < end {
-        buffer[to] = buffer[from];
-        from += 1;
-        to += 1;
-    }
+    buffer.copy_within(at..end, 0);
 }
 
 // Reads more input behind the first `kept` bytes, which stay, and answers how many bytes came.
