@@ -192,10 +192,6 @@ module _ (store reply input output : List ℕ) (s : State) (f : Fits input outpu
       store' reply' input r
   turn_stops r e os = rw e (fits_past false os, λ h w. ([], stands_past h w false (λ y. clash y refl)))
 
-pub goes_as : (n m : Next) (input : List ℕ) (s : State) (p : Progress) (r : State) (input' : List ℕ) → n ≡ m → GoesOn m input s p r input' → GoesOn n
-    input s p r input'
-goes_as n m input s p r input' e h = rw e h
-
 -- at the start no call has been made, and nothing has come
 abbrev pub nothing : History
 nothing = record { calls = []; rooms = []; came = [] }

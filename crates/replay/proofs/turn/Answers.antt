@@ -1,4 +1,3 @@
-use Rattle.std.proofs.Common.{rules}
 use Rattle.replay.proofs.Turns.{taken_within, can_go_on, turn_goes_on, turn_stops}
 use Rattle.replay.proofs.turn.Goals as goal
 
