@@ -1,4 +1,5 @@
-use Rattle.std.proofs.Common.{ℕ, refl, replicate, length-replicate}
+use Rattle.std.proofs.Common.{ℕ, refl, replicate}
+use Rattle.std.proofs.lemmas.List.{length-replicate}
 use Rattle.wire.specs.Fill.{zeros}
 use Rattle.replayer.specs.Replies.{start}
 use Rattle.replay.proofs.Turns.{created}

@@ -1,4 +1,3 @@
-use Rattle.std.proofs.Common.{◌≡◌, length}
 use Rattle.replay.specs.State.{Fits}
 use Rattle.replay.proofs.Turns.{Reached}
 use Rattle.replay.proofs.run.Given as goal
