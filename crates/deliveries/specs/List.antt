@@ -3,7 +3,7 @@ use Rattle.std.specs.Prelude.{ℕ, zero, suc, cond, List, [], ◌∷◌, length,
 use Rattle.std.proofs.Math.Option.{Option, none, some}
 use Rattle.entry.specs.Refusal.{number}
 use Rattle.entry.specs.Entry.{Entry}
-use Rattle.frame.specs.Message.{Message, put, get, del, repl, ok, value, not_found, err}
+use Rattle.frame.specs.Message.{put, get, del, repl, ok, value, not_found, err}
 use Rattle.frame.specs.Reading.{Outcome, message, refused as unread, read_frame}
 use Rattle.deliveries.specs.declared.Counted.{Counted}
 use Rattle.deliveries.specs.declared.Counted.TheVariants.{Deliveries, Refused}

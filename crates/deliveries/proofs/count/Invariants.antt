@@ -1,10 +1,8 @@
-use borrow.Author.Rules.{rules}
-use native.Mathlib.Omega.{arith}
 use mathlib.Core.Path.{◌≡◌}
 use Prim.Native.Nat.{◌-◌, ◌≤◌}
 use lib.ListN.{length, drop}
 use Rattle.deliveries.specs.List.{max_deliveries, deliveries_within, count_answer}
-use Rattle.deliveries.proofs.Runs.{counting, count_start, turn_end, turn_full, turn_nothing, Turned, turn_next}
+use Rattle.deliveries.proofs.Runs.{counting}
 use Rattle.deliveries.proofs.count.Given as goal
 
 abbrev pub invariant-loop-at : goal.invariant-loop-at

@@ -1,4 +1,3 @@
-use borrow.Author.Rules.{rules}
 use Rattle.frame.specs.Reading.{read_answer}
 use Rattle.deliveries.specs.Cut.{cut_answer}
 use Rattle.deliveries.proofs.Cutting.{cut_by}

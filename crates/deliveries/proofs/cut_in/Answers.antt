@@ -1,5 +1,4 @@
 use borrow.Enum.Refused.{opened}
-use borrow.Author.Rules.{rules}
 use Rattle.deliveries.proofs.Cutting.{not_delivered, is_delivered}
 use Rattle.deliveries.proofs.cut_in.Goals as goal
 

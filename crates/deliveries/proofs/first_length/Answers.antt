@@ -1,4 +1,3 @@
-use borrow.Author.Rules.{rules}
 use native.Mathlib.Omega.{arith}
 use Rattle.deliveries.proofs.Cutting.{short_length, cut_length, whole_length}
 use Rattle.deliveries.proofs.first_length.Goals as goal

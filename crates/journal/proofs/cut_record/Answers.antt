@@ -1,4 +1,3 @@
-use borrow.Author.Rules.{rules}
 use Rattle.journal.proofs.Cutting.{cut_end, cut_head, cut_small, cut_large, cut_body, cut_whole, len_read, time_read}
 use Rattle.journal.proofs.cut_record.Goals as goal
 

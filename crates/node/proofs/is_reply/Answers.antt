@@ -1,4 +1,3 @@
-use borrow.Author.Rules.{rules}
 use mathlib.Core.Path.{sym}
 use Rattle.node.proofs.Replying.{type_short, type_byte}
 use Rattle.node.proofs.is_reply.Goals as goal

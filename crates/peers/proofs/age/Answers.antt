@@ -1,4 +1,3 @@
-use borrow.Author.Rules.{rules}
 use borrow.Author.Tests.{lt-ltb, le-ltb}
 use Rattle.peers.specs.Row.{age_at}
 use Rattle.peers.proofs.age.Goals as goal

@@ -1,6 +1,4 @@
-use borrow.Author.Rules.{rules}
-use Rattle.replayer.proofs.Advancing.{turns_left}
-use Rattle.replayer.proofs.Running.{Running, running_first, running_fits, running_ends, running_less, running_again}
+use Rattle.replayer.proofs.Running.{running_first, running_fits, running_ends, running_less, running_again}
 use Rattle.replayer.proofs.advance.Goals as goal
 
 pub loop-store-init : goal.loop-store-init

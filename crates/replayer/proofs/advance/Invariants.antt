@@ -1,6 +1,5 @@
-use borrow.Author.Rules.{rules}
 use Rattle.replayer.proofs.Advancing.{turns_left}
-use Rattle.replayer.proofs.Running.{Running, running_first, running_fits, running_ends, running_less, running_again}
+use Rattle.replayer.proofs.Running.{Running}
 use Rattle.replayer.proofs.advance.Given as goal
 
 abbrev pub invariant-loop-store : goal.invariant-loop-store

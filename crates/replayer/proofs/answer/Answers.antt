@@ -1,4 +1,3 @@
-use borrow.Author.Rules.{rules}
 use native.Mathlib.Omega.{arith}
 use Rattle.replayer.proofs.Answers.{call_within, call_short}
 use Rattle.replayer.proofs.Turning.{answer_leaves}

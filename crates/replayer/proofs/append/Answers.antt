@@ -1,4 +1,3 @@
-use borrow.Author.Rules.{rules}
 use mathlib.Core.Path.{refl}
 use Prim.Native.Nat.{◌+◌}
 use lib.ListN.{length}
@@ -7,5 +6,8 @@ use Rattle.replayer.proofs.append.Goals as goal
 
 pub returns : goal.returns
 returns c =
-    let args = c.args in record { told = refl; left = appended args.filled (args.filled + length args.reply.now) args.reply.now args.output.now _ refl
-          c.requires c.put_padded.ensures }
+    let args = c.args in record {
+      told = refl;
+      left = appended args.filled (args.filled + length args.reply.now) args.reply.now args.output.now _ refl
+          c.requires c.put_padded.ensures;
+    }

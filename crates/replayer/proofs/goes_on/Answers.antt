@@ -1,4 +1,3 @@
-use borrow.Author.Rules.{rules}
 use Rattle.replayer.proofs.goes_on.Goals as goal
 
 pub returns-in-Write : goal.returns-in-Write

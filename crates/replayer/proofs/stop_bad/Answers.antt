@@ -1,4 +1,3 @@
-use borrow.Author.Rules.{rules}
 use mathlib.Core.Path.{refl}
 use Rattle.replayer.proofs.Filling.{err_put}
 use Rattle.replayer.proofs.stop_bad.Goals as goal

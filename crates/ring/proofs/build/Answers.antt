@@ -1,5 +1,4 @@
 use Rattle.ring.proofs.Answers.{answer_output}
-use borrow.Author.Rules.{rules}
 use mathlib.Core.Path.{◌≡◌, sym, ◌∙◌}
 use mathlib.Core.Bool.{false}
 use native.Mathlib.Nat.{lt_of_le_of_lt}

@@ -1,4 +1,3 @@
-use borrow.Author.Rules.{rules}
 use Rattle.ring.specs.Place.{token_of}
 use Rattle.ring.proofs.token.Goals as goal
 

@@ -1,5 +1,3 @@
-use borrow.Author.Rules.{rules}
-use borrow.Author.Tests.{not-true, not-false}
 use mathlib.Core.Path.{sym, ◌∙◌}
 use Rattle.store.proofs.Ways.{look_5}
 use Rattle.store.proofs.OnSound.{unchecked_on_sound}

@@ -1,6 +1,4 @@
 use Rattle.store.proofs.Ways.{told_left}
-use borrow.Author.Rules.{rules}
-use borrow.Author.Tests.{not-true, not-false}
 use mathlib.Core.Path.{sym, ◌∙◌}
 use Rattle.entry.specs.Entry.{entry_of}
 use Rattle.store.proofs.Ways.{offer_5}

@@ -1,4 +1,3 @@
-use borrow.Author.Rules.{rules}
 use Rattle.entry.specs.Entry.{entry_of}
 use Rattle.store.proofs.Ways.{told_left, offer_refused, offer_placed}
 use Rattle.store.proofs.offer_unchecked.Goals as goal

@@ -1,4 +1,3 @@
-use borrow.Author.Rules.{rules}
 use native.Mathlib.Omega.{arith}
 use mathlib.Core.Path.{refl}
 use Rattle.entry.specs.Entry.{entry_of}
@@ -32,8 +31,11 @@ unfolding after_placed
 returns-in-Replace c =
     let a = c.args in
     let e = entry_of a.key.now a.value.now a.flag a.stamp in
-    let k = c.placement_of-placement.ensures in record { told = told_as a.store.now e _ k _ c.in-Replace.is; left = left_as a.store.now e _ k _ c.in-Replace.is (slot_bytes e) _
-          c.write_entry-in-Replace.ensures }
+    let k = c.placement_of-placement.ensures in record {
+      told = told_as a.store.now e _ k _ c.in-Replace.is;
+      left = left_as a.store.now e _ k _ c.in-Replace.is (slot_bytes e) _
+          c.write_entry-in-Replace.ensures;
+    }
 
 pub returns-in-Kept : goal.returns-in-Kept
 unfolding after_placed

@@ -1,10 +1,8 @@
-use borrow.Author.Rules.{rules}
-use borrow.Author.Tests.{not-true, not-false}
 use native.Mathlib.Omega.{arith}
 use mathlib.Core.Path.{◌≡◌, sym, ap, ◌∙◌}
 use mathlib.Core.List.{List}
 use Prim.Native.Nat.{ℕ, ◌≤◌, ◌<◌}
-use Rattle.entry.specs.Entry.{Entry, entry_of, beats}
+use Rattle.entry.specs.Entry.{entry_of, beats}
 use Rattle.image.specs.Image.{slot_entry, slots_of, used_of, line_of}
 use Rattle.image.specs.Slot.{slot_at, has_slot}
 use Rattle.store.proofs.Ways.{place_kept, place_cut, place_over, place_old, place_full, place_short, place_new}

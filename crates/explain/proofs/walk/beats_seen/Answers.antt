@@ -1,4 +1,3 @@
-use borrow.Author.Rules.{rules}
 use mathlib.Core.List.{[]}
 use Rattle.wire.specs.Fill.{field}
 use Rattle.explain.proofs.walk.beats_seen.Goals as goal

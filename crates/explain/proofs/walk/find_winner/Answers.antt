@@ -1,8 +1,6 @@
 use native.Mathlib.Omega.{arith}
-use Prim.Native.Nat.{◌-◌}
-use lib.ListN.{length}
-use Rattle.explain.specs.Walk.{entries_in, LiesIn}
-use Rattle.explain.proofs.Walking.{Stands, Step, SoFar, most, stands_first, step, met_all, so_far_first, so_far_next, so_far_end}
+use Rattle.explain.specs.Walk.{entries_in}
+use Rattle.explain.proofs.Walking.{Step, most, stands_first, step, met_all, so_far_first, so_far_next, so_far_end}
 use Rattle.explain.proofs.walk.find_winner.Goals as goal
 
 pub loop-at-init : goal.loop-at-init

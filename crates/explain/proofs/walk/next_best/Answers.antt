@@ -1,5 +1,4 @@
 use mathlib.Core.Path.{sym, ◌∙◌}
-use borrow.Author.Tests.{not-true, not-false}
 use Rattle.explain.proofs.Seeing.{best_stays, best-taken}
 use Rattle.explain.proofs.walk.next_best.Goals as goal
 

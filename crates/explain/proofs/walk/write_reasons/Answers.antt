@@ -1,13 +1,8 @@
-use borrow.Author.Rules.{rules}
 use native.Mathlib.Omega.{arith}
-use mathlib.Core.Path.{◌≡◌, refl, ◌∙◌}
-use mathlib.Core.List.{◌++◌}
-use Prim.Native.Nat.{◌-◌}
-use lib.ListN.{length, take, drop, length-set}
-use Rattle.explain.specs.Winner.{winner}
-use Rattle.explain.specs.Reason.{reasons_for}
+use mathlib.Core.Path.{refl, ◌∙◌}
+use lib.ListN.{length-set}
 use Rattle.explain.specs.Walk.{entries_in}
-use Rattle.explain.proofs.Walking.{Stands, Step, most, stands_first, step, met_all, write_turn, write_done}
+use Rattle.explain.proofs.Walking.{Step, most, stands_first, step, met_all, write_turn, write_done}
 use Rattle.explain.proofs.walk.write_reasons.Goals as goal
 
 pub loop-at-init : goal.loop-at-init
@@ -38,8 +33,7 @@ loop-at-smaller c =
 pub loop-at-preserved : goal.loop-at-preserved
 loop-at-preserved c =
     let met : let l = c.loop-at in Step c.args.list.now c.args.key.now (entries_in c.args.list.now) l.at l.place c.peek-seen.result = step c.loop-at.invariant.0 c.loop-at-test.true _ _ c.peek-seen.ensures.0 in
-    let l = c.loop-at in
-    (
+    let l = c.loop-at in (
       met.next,
       simp length-set l.invariant.1,
       write_turn c.args.key.now (entries_in c.args.list.now) c.args.reasons.now met c.requires.1 _ c.requires.2

@@ -1,13 +1,11 @@
-use borrow.Author.Rules.{rules}
-use native.Mathlib.Omega.{arith}
-use mathlib.Core.Path.{◌≡◌, refl, ◌∙◌}
+use mathlib.Core.Path.{◌≡◌}
 use mathlib.Core.List.{◌++◌}
 use Prim.Native.Nat.{◌-◌}
-use lib.ListN.{length, take, drop, length-set}
+use lib.ListN.{length, take, drop}
 use Rattle.explain.specs.Winner.{winner}
 use Rattle.explain.specs.Reason.{reasons_for}
 use Rattle.explain.specs.Walk.{entries_in}
-use Rattle.explain.proofs.Walking.{Stands, Step, most, stands_first, step, met_all, write_turn, write_done}
+use Rattle.explain.proofs.Walking.{Stands}
 use Rattle.explain.proofs.walk.write_reasons.Given as goal
 
 abbrev pub invariant-loop-at : goal.invariant-loop-at

@@ -1,4 +1,3 @@
-use borrow.Author.Rules.{rules}
 use mathlib.Core.Path.{refl}
 use Rattle.frame.specs.Message.{ok}
 use Rattle.node.proofs.Replying.{replies, ok_taken}

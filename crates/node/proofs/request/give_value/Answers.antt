@@ -1,4 +1,3 @@
-use borrow.Author.Rules.{rules}
 use mathlib.Core.Path.{refl}
 use Rattle.frame.specs.Message.{value}
 use Rattle.frame.proofs.Bodies.{value_taken}

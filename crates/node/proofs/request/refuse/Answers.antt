@@ -1,4 +1,3 @@
-use borrow.Author.Rules.{rules}
 use mathlib.Core.Path.{refl}
 use Rattle.entry.specs.Refusal.{number}
 use Rattle.frame.specs.Message.{err}

@@ -1,4 +1,3 @@
-use borrow.Author.Rules.{rules}
 use Rattle.node.proofs.request.reply_to_offer.Goals as goal
 
 pub returns-in-Stored : goal.returns-in-Stored

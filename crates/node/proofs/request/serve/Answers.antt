@@ -1,4 +1,3 @@
-use borrow.Author.Rules.{rules}
 use mathlib.Core.Path.{refl}
 use Rattle.node.proofs.Settling.{settled_as, settled_refused}
 use Rattle.node.proofs.Serving.{got, deleted, put, replicated, no_request, get_within, del_within, put_within, repl_within}

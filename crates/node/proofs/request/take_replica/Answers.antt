@@ -1,4 +1,3 @@
-use borrow.Author.Rules.{rules}
 use mathlib.Core.Path.{refl, sym, ap, ◌∙◌}
 use Rattle.entry.specs.Entry.{entry_of}
 use Rattle.entry.proofs.Numbers.{number-range}

@@ -1,4 +1,3 @@
-use borrow.Author.Rules.{rules}
 use mathlib.Core.Path.{sym, ap}
 use Rattle.node.specs.Request.{refusal_in}
 use Rattle.node.proofs.request.why.Goals as goal

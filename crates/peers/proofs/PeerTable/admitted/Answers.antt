@@ -1,9 +1,8 @@
 use borrow.Author.Rules.{rules}
 use native.Mathlib.Omega.{arith}
-use mathlib.Core.Path.{◌≡◌, sym, ◌∙◌}
-use Prim.Native.Nat.{◌-◌, ◌≤◌}
-use lib.ListN.{length, length-set}
-use Rattle.peers.proofs.Flags.{Told, told_first, told_all, told_skipped, told-set}
+use mathlib.Core.Path.{sym, ◌∙◌}
+use lib.ListN.{length-set}
+use Rattle.peers.proofs.Flags.{told_first, told_all, told_skipped, told-set}
 use Rattle.peers.proofs.PeerTable.admitted.Goals as goal
 use Rattle.peers.proofs.PeerTable.admitted.Goals.{then-is_admitted, else-is_admitted}
 
@@ -15,16 +14,16 @@ loop-i-preserved c =
     let l = c.loop-i in
     let a = c.args in
     elim c.if-is_admitted.branch [
-    | then-is_admitted w ↦ (
-      omega arith,
-      rw (w.flags-is, length-set) l.invariant.1,
-      rw w.flags-is (told-set a.admission a.self l.flags l.i l.invariant.2 (omega arith) l.invariant.1 (sym c.is_admitted.ensures ∙ w.if-is_admitted.true)),
-    )
-    | else-is_admitted w ↦ (
-      omega arith,
-      rw w.flags-is l.invariant.1,
-      rw w.flags-is (told_skipped a.admission a.self l.flags l.i l.invariant.2 (omega arith) (sym c.is_admitted.ensures ∙ w.if-is_admitted.false)),
-    )
+      | then-is_admitted w ↦ (
+        omega arith,
+        rw (w.flags-is, length-set) l.invariant.1,
+        rw w.flags-is (told-set a.admission a.self l.flags l.i l.invariant.2 (omega arith) l.invariant.1 (sym c.is_admitted.ensures ∙ w.if-is_admitted.true)),
+      )
+      | else-is_admitted w ↦ (
+        omega arith,
+        rw w.flags-is l.invariant.1,
+        rw w.flags-is (told_skipped a.admission a.self l.flags l.i l.invariant.2 (omega arith) (sym c.is_admitted.ensures ∙ w.if-is_admitted.false)),
+      )
     ]
 
 pub returns : goal.returns

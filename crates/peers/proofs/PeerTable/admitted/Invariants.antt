@@ -1,10 +1,7 @@
-use borrow.Author.Rules.{rules}
-use native.Mathlib.Omega.{arith}
-use mathlib.Core.Path.{◌≡◌, sym, ◌∙◌}
-use mathlib.Core.Logic.{⊎_elim}
+use mathlib.Core.Path.{◌≡◌}
 use Prim.Native.Nat.{◌-◌, ◌≤◌}
-use lib.ListN.{length, length-set}
-use Rattle.peers.proofs.Flags.{Told, told_first, told_all, told_skipped, told-set}
+use lib.ListN.{length}
+use Rattle.peers.proofs.Flags.{Told}
 use Rattle.peers.proofs.PeerTable.admitted.Given as goal
 
 abbrev pub invariant-loop-i : goal.invariant-loop-i

@@ -1,4 +1,3 @@
-use borrow.Author.Rules.{rules}
 use mathlib.Core.Path.{refl}
 use Rattle.peers.specs.Event.{empty_table, fresh_table, after_fresh, fresh_answer}
 use Rattle.peers.proofs.Answers.{refused_gives, done_gives, fresh_9, fresh_0}

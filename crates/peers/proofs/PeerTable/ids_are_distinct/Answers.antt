@@ -1,9 +1,5 @@
-use borrow.Author.Rules.{rules}
 use native.Mathlib.Omega.{arith}
-use mathlib.Core.Path.{◌≡◌, refl, sym, ◌∙◌}
-use Prim.Native.Nat.{◌-◌, ◌≤◌}
-use lib.ListN.{drop}
-use Rattle.peers.specs.Table.{rows_of, distinct}
+use mathlib.Core.Path.{refl, sym, ◌∙◌}
 use Rattle.peers.proofs.Scan.{distinct_stop, distinct_next, distinct_past}
 use Rattle.peers.proofs.PeerTable.ids_are_distinct.Goals as goal
 

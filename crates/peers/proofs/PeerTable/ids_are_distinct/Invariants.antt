@@ -1,10 +1,7 @@
-use borrow.Author.Rules.{rules}
-use native.Mathlib.Omega.{arith}
-use mathlib.Core.Path.{◌≡◌, refl, sym, ◌∙◌}
+use mathlib.Core.Path.{◌≡◌}
 use Prim.Native.Nat.{◌-◌, ◌≤◌}
 use lib.ListN.{drop}
 use Rattle.peers.specs.Table.{rows_of, distinct}
-use Rattle.peers.proofs.Scan.{distinct_stop, distinct_next, distinct_past}
 use Rattle.peers.proofs.PeerTable.ids_are_distinct.Given as goal
 
 abbrev pub invariant-loop-i : goal.invariant-loop-i

@@ -1,9 +1,5 @@
-use borrow.Author.Rules.{rules}
 use native.Mathlib.Omega.{arith}
-use mathlib.Core.Path.{◌≡◌, refl}
-use Prim.Native.Nat.{◌+◌, ◌-◌, ◌≤◌}
-use lib.ListN.{drop}
-use Rattle.peers.specs.Table.{rows_of, index_of}
+use mathlib.Core.Path.{refl}
 use Rattle.peers.proofs.Scan.{index_here, index_next, index_past}
 use Rattle.peers.proofs.PeerTable.index_from.Goals as goal
 

@@ -1,10 +1,7 @@
-use borrow.Author.Rules.{rules}
-use native.Mathlib.Omega.{arith}
-use mathlib.Core.Path.{◌≡◌, refl}
+use mathlib.Core.Path.{◌≡◌}
 use Prim.Native.Nat.{◌+◌, ◌-◌, ◌≤◌}
 use lib.ListN.{drop}
 use Rattle.peers.specs.Table.{rows_of, index_of}
-use Rattle.peers.proofs.Scan.{index_here, index_next, index_past}
 use Rattle.peers.proofs.PeerTable.index_from.Given as goal
 
 abbrev pub invariant-loop-i : goal.invariant-loop-i

@@ -1,8 +1,6 @@
 use native.Mathlib.Omega.{arith}
-use borrow.Author.Rules.{rules}
-use borrow.Author.Tests.{not-true, not-false}
 use mathlib.Core.Path.{◌≡◌, sym, ◌∙◌}
-use lib.ListN.{length, length-map}
+use lib.ListN.{length}
 use Rattle.peers.proofs.Sound.{sound_none, sound-over, sound_twice, sound_dead, sound-range}
 use Rattle.peers.proofs.PeerTable.is_sound.Goals as goal
 

@@ -1,5 +1,3 @@
-use borrow.Author.Rules.{rules}
-use borrow.Author.Tests.{not-true, not-false}
 use native.Mathlib.Omega.{arith}
 use mathlib.Core.Path.{sym, ◌∙◌}
 use Rattle.peers.proofs.Answers.{peer_9, peer_state, peer_unsound, peer_15, peer_11, peer_12, peer_0}

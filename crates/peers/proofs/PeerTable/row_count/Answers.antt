@@ -1,7 +1,6 @@
-use borrow.Author.Rules.{rules}
 use native.Mathlib.Omega.{arith}
 use mathlib.Core.Path.{◌≡◌}
-use lib.ListN.{length, length-map}
+use lib.ListN.{length}
 use Rattle.peers.proofs.Scan.{all_ten, as_counted}
 use Rattle.peers.proofs.PeerTable.row_count.Goals as goal
 

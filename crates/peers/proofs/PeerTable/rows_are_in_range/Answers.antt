@@ -1,10 +1,5 @@
-use borrow.Author.Rules.{rules}
-use borrow.Author.Tests.{not-true, not-false}
 use native.Mathlib.Omega.{arith}
-use mathlib.Core.Path.{◌≡◌, refl, sym, ◌∙◌}
-use Prim.Native.Nat.{◌-◌, ◌≤◌}
-use lib.ListN.{drop}
-use Rattle.peers.specs.Table.{rows_of, rows_in_range}
+use mathlib.Core.Path.{refl, sym, ◌∙◌}
 use Rattle.peers.proofs.Scan.{range_stop, range_next, range_past}
 use Rattle.peers.proofs.PeerTable.rows_are_in_range.Goals as goal
 

@@ -1,11 +1,7 @@
-use borrow.Author.Rules.{rules}
-use borrow.Author.Tests.{not-true, not-false}
-use native.Mathlib.Omega.{arith}
-use mathlib.Core.Path.{◌≡◌, refl, sym, ◌∙◌}
+use mathlib.Core.Path.{◌≡◌}
 use Prim.Native.Nat.{◌-◌, ◌≤◌}
 use lib.ListN.{drop}
 use Rattle.peers.specs.Table.{rows_of, rows_in_range}
-use Rattle.peers.proofs.Scan.{range_stop, range_next, range_past}
 use Rattle.peers.proofs.PeerTable.rows_are_in_range.Given as goal
 
 abbrev pub invariant-loop-i : goal.invariant-loop-i

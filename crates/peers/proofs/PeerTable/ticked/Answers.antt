@@ -1,9 +1,7 @@
-use borrow.Author.Rules.{rules}
 use native.Mathlib.Omega.{arith}
-use mathlib.Core.Path.{◌≡◌, ◌∙◌}
-use Prim.Native.Nat.{◌-◌, ◌≤◌}
+use mathlib.Core.Path.{◌∙◌}
 use Rattle.peers.specs.Row.{tick_row}
-use Rattle.peers.proofs.Ticked.{table_to, to_first, to_next, to_end}
+use Rattle.peers.proofs.Ticked.{to_next, to_end}
 use Rattle.peers.proofs.PeerTable.ticked.Goals as goal
 
 pub loop-i-preserved : goal.loop-i-preserved

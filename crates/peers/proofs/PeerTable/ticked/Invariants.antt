@@ -1,9 +1,7 @@
-use borrow.Author.Rules.{rules}
-use native.Mathlib.Omega.{arith}
-use mathlib.Core.Path.{◌≡◌, ◌∙◌}
+use mathlib.Core.Path.{◌≡◌}
 use Prim.Native.Nat.{◌-◌, ◌≤◌}
 use Rattle.peers.specs.Row.{tick_row}
-use Rattle.peers.proofs.Ticked.{table_to, to_first, to_next, to_end}
+use Rattle.peers.proofs.Ticked.{table_to}
 use Rattle.peers.proofs.PeerTable.ticked.Given as goal
 
 abbrev pub invariant-loop-i : goal.invariant-loop-i

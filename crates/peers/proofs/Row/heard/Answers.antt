@@ -1,4 +1,3 @@
-use borrow.Author.Rules.{rules}
 use mathlib.Core.Path.{ap}
 use Rattle.peers.specs.Row.{changed, heard_row}
 use Rattle.peers.proofs.Row.heard.Goals as goal

@@ -1,4 +1,3 @@
-use borrow.Author.Rules.{rules}
 use mathlib.Core.Path.{sym, ap}
 use Rattle.peers.specs.declared.Admission.{Admission}
 use Rattle.peers.specs.Admitted.{admits_row}

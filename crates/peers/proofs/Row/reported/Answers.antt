@@ -1,4 +1,3 @@
-use borrow.Author.Rules.{rules}
 use mathlib.Core.Path.{ap, ◌∙◌}
 use Rattle.peers.specs.Row.{changed}
 use Rattle.peers.proofs.Rows.{reported_alive, reported_higher, reported_worse, reported_held}

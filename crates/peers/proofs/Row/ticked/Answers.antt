@@ -1,4 +1,3 @@
-use borrow.Author.Rules.{rules}
 use Rattle.peers.proofs.Rows.{tick_down, tick_suspect, tick_held, tick_young}
 use Rattle.peers.proofs.Row.ticked.Goals as goal
 

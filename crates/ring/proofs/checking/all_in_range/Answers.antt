@@ -1,9 +1,6 @@
 use borrow.Author.Rules.{rules}
-use mathlib.Core.Path.{◌≡◌, sym, ◌∙◌}
-use Prim.Native.Nat.{◌≤◌, ◌-◌}
+use mathlib.Core.Path.{sym, ◌∙◌}
 use native.Mathlib.Omega.{arith}
-use lib.ListN.{length, drop}
-use Rattle.ring.specs.Sound.{in_range}
 use Rattle.ring.proofs.Scan.{range_next, range_high, range-vnode, range_end}
 use Rattle.ring.proofs.checking.all_in_range.Goals as goal
 

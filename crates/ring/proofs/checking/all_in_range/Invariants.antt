@@ -1,10 +1,7 @@
-use borrow.Author.Rules.{rules}
-use mathlib.Core.Path.{◌≡◌, sym, ◌∙◌}
+use mathlib.Core.Path.{◌≡◌}
 use Prim.Native.Nat.{◌≤◌, ◌-◌}
-use native.Mathlib.Omega.{arith}
 use lib.ListN.{length, drop}
 use Rattle.ring.specs.Sound.{in_range}
-use Rattle.ring.proofs.Scan.{range_next, range_high, range-vnode, range_end}
 use Rattle.ring.proofs.checking.all_in_range.Given as goal
 
 abbrev pub invariant-loop-i : goal.invariant-loop-i

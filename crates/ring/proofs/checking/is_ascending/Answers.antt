@@ -1,9 +1,6 @@
 use borrow.Author.Rules.{rules}
-use mathlib.Core.Path.{◌≡◌, sym, ◌∙◌}
-use Prim.Native.Nat.{◌≤◌, ◌-◌}
+use mathlib.Core.Path.{sym, ◌∙◌}
 use native.Mathlib.Omega.{arith}
-use lib.ListN.{length, drop}
-use Rattle.ring.specs.Lists.{ascending}
 use Rattle.ring.proofs.Scan.{ascending_next, ascending_stop, ascending_end}
 use Rattle.ring.proofs.checking.is_ascending.Goals as goal
 

@@ -1,10 +1,7 @@
-use borrow.Author.Rules.{rules}
-use mathlib.Core.Path.{◌≡◌, sym, ◌∙◌}
+use mathlib.Core.Path.{◌≡◌}
 use Prim.Native.Nat.{◌≤◌, ◌-◌}
-use native.Mathlib.Omega.{arith}
 use lib.ListN.{length, drop}
 use Rattle.ring.specs.Lists.{ascending}
-use Rattle.ring.proofs.Scan.{ascending_next, ascending_stop, ascending_end}
 use Rattle.ring.proofs.checking.is_ascending.Given as goal
 
 abbrev pub invariant-loop-i : goal.invariant-loop-i

@@ -1,4 +1,3 @@
-use borrow.Author.Rules.{rules}
 use borrow.Author.Tests.{lt-ltb, le-ltb}
 use Rattle.ring.specs.Owners.{bad_request}
 use Rattle.ring.proofs.walking.bad_request.Goals as goal

@@ -1,10 +1,7 @@
-use borrow.Author.Rules.{rules}
 use mathlib.Core.Path.{◌≡◌}
 use Prim.Native.Nat.{◌≤◌, ◌+◌, ◌-◌}
-use native.Mathlib.Omega.{arith}
 use lib.ListN.{length, drop}
 use Rattle.ring.specs.Walk.{before}
-use Rattle.ring.proofs.Scan.{before_next, before_stop, before_end}
 use Rattle.ring.proofs.walking.start.Given as goal
 
 abbrev pub invariant-loop-i : goal.invariant-loop-i

@@ -1,15 +1,12 @@
 use borrow.Author.Rules.{rules}
-use borrow.Author.Tests.{ltb-true, ltb-false}
-use mathlib.Core.Path.{◌≡◌, ◌∙◌}
-use mathlib.Core.List.{◌++◌, map}
-use mathlib.Core.Logic.{⊎_elim}
-use Prim.Native.Nat.{◌≤◌, ◌-◌}
+use mathlib.Core.Path.{◌∙◌}
+use mathlib.Core.List.{map}
 use native.Mathlib.Nat.{sub-zero, lt_of_lt_of_le}
 use native.Mathlib.Omega.{arith}
-use lib.ListN.{length, take, drop, length-set}
+use lib.ListN.{take, length-set}
 use Rattle.ring.specs.Place.{node}
 use Rattle.ring.specs.Helpers.{turned}
-use Rattle.ring.proofs.Meeting.{gather, gather_full, gather_end}
+use Rattle.ring.proofs.Meeting.{gather_full, gather_end}
 use Rattle.ring.proofs.Meeting.{length_nodes, length-turned, turn-take, turn_skip, turn_end}
 use Rattle.ring.proofs.walking.walk.Goals as goal
 use Rattle.ring.proofs.walking.walk.Goals.{then-free-n, else-free-n}
@@ -25,28 +22,28 @@ loop-j-preserved c =
     let l = c.loop-j in
     let a = c.args in
     elim c.if-free-n.branch [
-    | then-free-n w ↦ (
-      search rules,
-      rw w.count-is (omega arith),
-      rw (w.free-is, length-set) l.invariant.2,
-      rw (w.nodes-is, length-set) l.invariant.3,
-      rw (w.free-is, w.nodes-is, w.count-is)
-          (turn-take (turned a.start a.ring.now) l.free l.nodes a.r l.count l.j c.place_at.result
-          (rw (length-turned a.start a.ring.now c.requires.0) c.loop-j-test.true)
-          c.if-count-r.true c.place_at.ensures (omega arith) w.if-free-n.true
-          ∙ l.invariant.4),
-    )
-    | else-free-n w ↦ (
-      search rules,
-      rw w.count-is (omega arith),
-      rw w.free-is l.invariant.2,
-      rw w.nodes-is l.invariant.3,
-      rw (w.free-is, w.nodes-is, w.count-is)
-          (turn_skip (turned a.start a.ring.now) l.free l.nodes a.r l.count l.j c.place_at.result
-          (rw (length-turned a.start a.ring.now c.requires.0) c.loop-j-test.true)
-          c.if-count-r.true c.place_at.ensures w.if-free-n.false
-          ∙ l.invariant.4),
-    )
+      | then-free-n w ↦ (
+        search rules,
+        rw w.count-is (omega arith),
+        rw (w.free-is, length-set) l.invariant.2,
+        rw (w.nodes-is, length-set) l.invariant.3,
+        rw (w.free-is, w.nodes-is, w.count-is)
+            (turn-take (turned a.start a.ring.now) l.free l.nodes a.r l.count l.j c.place_at.result
+            (rw (length-turned a.start a.ring.now c.requires.0) c.loop-j-test.true)
+            c.if-count-r.true c.place_at.ensures (omega arith) w.if-free-n.true
+            ∙ l.invariant.4),
+      )
+      | else-free-n w ↦ (
+        search rules,
+        rw w.count-is (omega arith),
+        rw w.free-is l.invariant.2,
+        rw w.nodes-is l.invariant.3,
+        rw (w.free-is, w.nodes-is, w.count-is)
+            (turn_skip (turned a.start a.ring.now) l.free l.nodes a.r l.count l.j c.place_at.result
+            (rw (length-turned a.start a.ring.now c.requires.0) c.loop-j-test.true)
+            c.if-count-r.true c.place_at.ensures w.if-free-n.false
+            ∙ l.invariant.4),
+      )
     ]
 
 pub returns-else-count-r : goal.returns-else-count-r

@@ -1,5 +1,4 @@
 use Rattle.store.proofs.Ways.{told_left}
-use borrow.Author.Rules.{rules}
 use native.Mathlib.Omega.{arith}
 use mathlib.Core.Path.{◌≡◌, sym, ap, ◌∙◌}
 use mathlib.Core.List.{List}
@@ -7,7 +6,7 @@ use Prim.Native.Nat.{ℕ, ◌-◌}
 use Rattle.image.specs.Image.{slot_entry}
 use Rattle.image.specs.Slot.{slot_at}
 use Rattle.store.specs.Purge.{cleared}
-use Rattle.store.proofs.Purging.{Clearing, clear_start, clear_few, clear_fits, clear_gone, clear_stays, clear_end}
+use Rattle.store.proofs.Purging.{clear_start, clear_few, clear_fits, clear_gone, clear_stays, clear_end}
 use Rattle.store.proofs.clear.clear.Goals as goal
 
 pub loop-i-init : goal.loop-i-init

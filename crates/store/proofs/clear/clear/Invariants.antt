@@ -1,12 +1,4 @@
-use borrow.Author.Rules.{rules}
-use native.Mathlib.Omega.{arith}
-use mathlib.Core.Path.{◌≡◌, sym, ap, ◌∙◌}
-use mathlib.Core.List.{List}
-use Prim.Native.Nat.{ℕ, ◌-◌}
-use Rattle.image.specs.Image.{slot_entry}
-use Rattle.image.specs.Slot.{slot_at}
-use Rattle.store.specs.Purge.{cleared}
-use Rattle.store.proofs.Purging.{Clearing, clear_start, clear_few, clear_fits, clear_gone, clear_stays, clear_end}
+use Rattle.store.proofs.Purging.{Clearing}
 use Rattle.store.proofs.clear.clear.Given as goal
 
 abbrev pub invariant-loop-i : goal.invariant-loop-i

@@ -1,4 +1,3 @@
-use borrow.Author.Rules.{rules}
 use Rattle.store.proofs.Purging.{slot_active, slot_deleted}
 use Rattle.store.proofs.clear.is_cleared.Goals as goal
 

@@ -1,11 +1,8 @@
-use borrow.Author.Rules.{rules}
-use native.Mathlib.Omega.{arith}
-use mathlib.Core.Path.{◌≡◌, refl}
+use mathlib.Core.Path.{◌≡◌}
 use mathlib.Core.List.{◌++◌}
 use Prim.Native.Nat.{◌+◌, ◌-◌, ◌≤◌}
-use lib.ListN.{length, take, drop, length-set}
+use lib.ListN.{length, take, drop}
 use Rattle.image.specs.Layout.{slot_width}
-use Rattle.store.proofs.Shifts.{shift_none, shift_step}
 use Rattle.store.proofs.write.shift_up.Given as goal
 
 abbrev pub invariant-loop-i : goal.invariant-loop-i
