@@ -50,7 +50,8 @@ module _ (s : List ℕ) (i : ℕ) (lent : List ℕ) (o : Listed) (is : listing_o
   pub entry_refused : (why : Refusal) → o ≡ listed.Refused why → (r : ℕ) → r ≡ packed (number why) 0 → EntryPut r lent
   entry_refused why e r h = rw (← is, e) (front_refused (number why) [] lent r why refl h)
 
-  pub entry_put : (ka kl va vl flag : ℕ) (stamp : Stamp) → o ≡ listed.Entry ka kl va vl flag stamp → (words : List ℕ) → words ≡ repl_words ka kl va vl flag stamp
+  pub entry_put : (ka kl va vl flag : ℕ) (stamp : Stamp) → o ≡ listed.Entry ka kl va vl flag stamp → (words : List ℕ)
+      → words ≡ repl_words ka kl va vl flag stamp
       → (r : ℕ) (after : List ℕ) → Puts 0 words lent r after → EntryPut r after
   entry_put ka kl va vl flag stamp e words w r after p = rw (← is, e) (rw w at p)
 

@@ -93,13 +93,15 @@ pub fresh_long : (i a p n now : ℕ) → fresh_answer now ≡ 0 → length (tabl
 unfolding table_words rows_words after_fresh unless_refused fresh_table
 fresh_long i a p n now z = rw z
 
-pub fresh-put : (i a p n now : ℕ) (lent : List ℕ) (r : ℕ) (d : Changed) (after : List ℕ) → Gives d (after_fresh i a p n now) (fresh_answer now) → d.answer ≡ Done
+pub fresh-put : (i a p n now : ℕ) (lent : List ℕ) (r : ℕ) (d : Changed) (after : List ℕ) → Gives d (after_fresh i a p n now) (fresh_answer now)
+    → d.answer ≡ Done
     → 61 ≤ length lent → r ≡ packed (answer_number d.answer) 0 → after ≡ table_words d.table ++ drop 61 lent
     → Puts (fresh_answer now) (table_words (after_fresh i a p n now)) lent r after
 fresh-put i a p n now lent r d after g e h re ae =
     let z : fresh_answer now ≡ 0 = sym g.answer ∙ ap answer_number e in
     let l = fresh_long i a p n now z in
-    front_put (fresh_answer now) (table_words (after_fresh i a p n now)) lent r after z (omega arith) (re ∙ ap (λ (x : PeerAnswer). packed (answer_number x) 0) e)
+    front_put (fresh_answer now) (table_words (after_fresh i a p n now)) lent r after z (omega arith) (re
+    ∙ ap (λ (x : PeerAnswer). packed (answer_number x) 0) e)
     (rw l (ae ∙ ap (λ (t : PeerTable). table_words t ++ drop 61 lent) g.table))
 
 -- ---- a refused event

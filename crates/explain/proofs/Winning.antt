@@ -102,7 +102,8 @@ over_some k w i (d ∷ ds) h = elim (test (is_of k d && beats d w.entry)) [
   | inr p ↦ over_some k w (suc i) ds (rw p at h)
 ]
 
-not_held_for : (k : List ℕ) (i : ℕ) (d : Entry) (ds : List Entry) → best_over k none i (d ∷ ds) ≡ none → (is_of k d ≡ false) × (best_over k none (suc i) ds ≡ none)
+not_held_for : (k : List ℕ) (i : ℕ) (d : Entry) (ds : List Entry) → best_over k none i (d ∷ ds) ≡ none → (is_of k d ≡ false)
+    × (best_over k none (suc i) ds ≡ none)
 unfolding best_over
 not_held_for k i d ds h = elim (test (is_of k d)) [
   | inl p ↦ over_some k (record { place = i; entry = d }) (suc i) ds (rw p at h)

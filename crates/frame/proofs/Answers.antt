@@ -168,14 +168,16 @@ module _ (s : List ℕ) (kl : ℕ) (kle : kl ≡ klen s) where
     repl_flag f = bad_argument s (value_ends (kl + 15) s) _ h (flag_same _ _ ∙ f) ∙ ap repl_in kle
 
     pub repl_judged : bad ≡ false → (st : Stamp) → st ≡ stamp_in (kl + 6) s
-        → judged_as (bad_key (key_part kl s)) (too_large (value_part (kl + 17) s)) (repl_at kl (length (value_part (kl + 17) s)) (get_or s (kl + 5) 0) st) ≡ read_body 4 s
+        → judged_as (bad_key (key_part kl s)) (too_large (value_part (kl + 17) s)) (repl_at kl (length (value_part (kl + 17) s)) (get_or s (kl + 5) 0) st)
+        ≡ read_body 4 s
     unfolding read_body key_fault value_fault argument_fault
     repl_judged f st ste =
         let v = value_part_lem (kl + 15) (kl + 17) s (omega arith) h in
         ap (λ (n : ℕ). judged_as (bad_key (key_part kl s)) (too_large (value_part (kl + 17) s)) (repl_at kl n (get_or s (kl + 5) 0) st))
         (value_length (kl + 15) (kl + 17) s (omega arith) h)
         ∙ rw (flag_in_lem, ste)
-        (judged s (value_ends (kl + 15) s) (key_part kl s) (value_part (kl + 17) s) _ h (flag_same _ _ ∙ f) (ap bad_key (sym (key_part_lem kl s))) (ap too_large (sym v))
+        (judged s (value_ends (kl + 15) s) (key_part kl s) (value_part (kl + 17) s) _ h (flag_same _ _
+        ∙ f) (ap bad_key (sym (key_part_lem kl s))) (ap too_large (sym v))
         ∙ ap repl_in kle)
 
 -- ---- OK and NOTFOUND
@@ -251,7 +253,8 @@ module _ (s : List ℕ) (h : envelope_holds s ≡ true) where
   pub frame_read : (t : ℕ) (r : Read) → get_or s 2 0 ≡ t → r ≡ read_body t s → r ≡ read_answer s
   frame_read t r e k = rw (by_type, e) k
 
-  pub frame_unknown : (get_or s 2 0 ≡ 1 → ⊥) → (get_or s 2 0 ≡ 2 → ⊥) → (get_or s 2 0 ≡ 3 → ⊥) → (get_or s 2 0 ≡ 4 → ⊥) → ((get_or s 2 0 ≡ 16) ⊎ (get_or s 2 0 ≡ 18) → ⊥)
+  pub frame_unknown : (get_or s 2 0 ≡ 1 → ⊥) → (get_or s 2 0 ≡ 2 → ⊥) → (get_or s 2 0 ≡ 3 → ⊥) → (get_or s 2 0 ≡ 4 → ⊥)
+      → ((get_or s 2 0 ≡ 16) ⊎ (get_or s 2 0 ≡ 18) → ⊥)
       → (get_or s 2 0 ≡ 17 → ⊥) → (get_or s 2 0 ≡ 20 → ⊥) → Refused BadFrame ≡ read_answer s
   unfolding read_body
   frame_unknown n1 n2 n3 n4 n16 n17 n20 =

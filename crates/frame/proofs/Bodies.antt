@@ -269,7 +269,8 @@ body_reads (put k v) s f t i =
     let p : length (counted 1 k) + 4 ≡ klen s + 5 = omega (arith, length-counted 1 k) in
     let h = ltb-false 512 (length v) t.value in
     clean s _ _ (put k v) (value_ends_in s _ f (klen s + 5) (klen s + 7) (counted 1 k) v refl p (omega arith) h)
-    (ap₂ put (key_in_lem s _ f k (counted 2 v) refl (key_short k t.key)) (value_in_lem s _ f (klen s + 5) (klen s + 7) (counted 1 k) v refl p (omega arith) h)) t
+    (ap₂ put (key_in_lem s _ f k (counted 2 v) refl (key_short k t.key)) (value_in_lem s _ f (klen s + 5) (klen s + 7) (counted 1 k) v refl p
+    (omega arith) h)) t
 body_reads (get k) s f t i = clean s _ _ (get k) (key_ends_lem s k f t.key) (ap get (key_alone s k f t.key)) t
 body_reads (del k) s f t i = clean s _ _ (del k) (key_ends_lem s k f t.key) (ap del (key_alone s k f t.key)) t
 body_reads (repl e) s f t i = clean s _ _ (repl e) (repl_ends s e f t i) (repl_in_lem s e f t i) t

@@ -68,7 +68,13 @@ module _ (t : ℕ) (b : List ℕ) where
       let l : number_at 0 2 (envelope t b) ≡ length b + 6 =
       number_inside 0 2 (length b + 6) (envelope t b) [] ((t ∷ 0 ∷ b) ++ sum) (append_assoc len (t ∷ 0 ∷ b) sum) refl (omega arith) in
       let n = length-envelope t b in
-      rw (l, le-leb 6 (length b + 6) (omega arith), le-leb (length b + 6) max_len (omega arith), eq-eqb (length (envelope t b)) (length b + 6 + 2) (omega arith))
+      rw (
+        l,
+        le-leb 6 (length b + 6) (omega arith),
+        le-leb (length b + 6) max_len (omega arith),
+        eq-eqb (length (envelope t b)) (length b + 6 + 2)
+            (omega arith),
+      )
 
   pub framed : Framed (envelope t b) b
   unfolding envelope

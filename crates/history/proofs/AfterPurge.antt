@@ -120,7 +120,8 @@ module _ (s : List ℕ) (ok : sound s ≡ true) where
         none_passed = λ k m. all_plain t (replicate n (entries_of s)) events (rw same_said at m);
         equal_lines = λ m. all_plain t (replicate n (entries_of s)) events (rw same_said at m) refl;
         holds = λ i l e. let a = end.each i l in rw (entries_are s ok a) (held_live t (set_then s n events i) e);
-        keys = λ i l d m p. let a = end.each i l in rw (entries_are s ok a) (held_key (live t (set_then s n events i)) (live-mem t (set_then s n events i) m p));
+        keys = λ i l d m p. let a =
+            end.each i l in rw (entries_are s ok a) (held_key (live t (set_then s n events i)) (live-mem t (set_then s n events i) m p));
         bytes = λ i l. let a = end.each i l in rw (entries_are s ok a) (ascend _ (held_ascending (live t (set_then s n events i))), a.is_image);
         converge = λ i j l m f.
             let ds = set_then s n events i in

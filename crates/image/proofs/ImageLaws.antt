@@ -131,7 +131,8 @@ pub entry_at : (i : ℕ) (s : List ℕ) → i < used_of s → drop i (entries_of
 unfolding entries_of slot_at field
 entry_at i s h =
     entry_in_lem i (used_of s) (drop header_width s) h
-    ∙ ap (λ (l : List ℕ). slot_entry (take slot_width l) ∷ drop (suc i) (entries_in (used_of s) (drop header_width s))) (drop-drop (slot_width * i) header_width s)
+    ∙ ap (λ (l : List ℕ). slot_entry (take slot_width l) ∷ drop (suc i) (entries_in (used_of s) (drop header_width s))) (drop-drop
+    (slot_width * i) header_width s)
 
 -- ---- a sound store
 pub sound_is : SoundIs

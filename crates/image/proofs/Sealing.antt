@@ -68,7 +68,8 @@ module _ (e : Entry) where
 
   at_sum : field body_width 4 (slot_bytes e) ≡ be 4 (crc32c (slot_body e))
   unfolding slot_bytes field
-  at_sum = field_past body_width 0 4 (slot_body e) _ (length-body e) ∙ take_all 4 (be 4 (crc32c (slot_body e))) (omega (arith, length-be 4 (crc32c (slot_body e))))
+  at_sum = field_past body_width 0 4 (slot_body e) _ (length-body e)
+      ∙ take_all 4 (be 4 (crc32c (slot_body e))) (omega (arith, length-be 4 (crc32c (slot_body e))))
 
 -- ---- bytes whose lengths are within their fields
 module _ (s : List ℕ) (klen vlen : ℕ) (l : Lengths s klen vlen) where
@@ -117,7 +118,8 @@ module _ (s : List ℕ) (klen vlen : ℕ) (l : Lengths s klen vlen) where
   pub bad_fill : same_bytes (field 13 3 s) (zeros (length (field 13 3 s))) ≡ false → false ≡ sealed s
   bad_fill = not_sealed 3 (field 13 3 s) fill_zero
 
-  pub bad_key_fill : same_bytes (field (key_at + klen) (key_width - klen) s) (zeros (length (field (key_at + klen) (key_width - klen) s))) ≡ false → false ≡ sealed s
+  pub bad_key_fill : same_bytes (field (key_at + klen) (key_width - klen) s) (zeros (length (field (key_at + klen) (key_width - klen) s))) ≡ false
+      → false ≡ sealed s
   bad_key_fill = not_sealed (key_width - klen) (field (key_at + klen) (key_width - klen) s) key_fill_zero
 
   pub bad_value_fill : same_bytes (field (value_at + vlen) (value_width - vlen) s) (zeros (length (field (value_at + vlen) (value_width - vlen) s))) ≡ false

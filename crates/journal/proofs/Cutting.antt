@@ -39,7 +39,14 @@ module _ (s : List ℕ) where
 
           pub cut_whole : 8 + len_in s ≤ length s → whole (time_in s) (8 + len_in s) ≡ piece_of s
           unfolding piece_of
-          cut_whole h = rw (ne_eqb (length s) 0 n, le-ltb (length s) 8 m, le-ltb (len_in s) 6 a, le-ltb max_len (len_in s) b, le-ltb (length s) (8 + len_in s) h)
+          cut_whole h = rw (
+            ne_eqb (length s) 0 n,
+            le-ltb (length s) 8 m,
+            le-ltb (len_in s) 6 a,
+            le-ltb max_len (len_in s) b,
+            le-ltb (length s)
+                (8 + len_in s) h,
+          )
 
   -- the numbers as they are read
   pub len_read : (n : ℕ) → n ≡ num (take 8 (take 2 (drop 6 s))) → n ≡ len_in s

@@ -64,7 +64,8 @@ module _ (s : List ℕ) where
       (λ w h. never (cc))
 
   pub refusal_number_lem : (more : Bool) (n : ℕ) → piece_of s ≡ no_record more n → (n ≡ 0) ⊎ (n ≡ 3)
-  refusal_number_lem more n = piece_cases (λ p. p ≡ no_record more n → (n ≡ 0) ⊎ (n ≡ 3)) (λ z h. inl (cc)) (λ b h. inr (cc)) (λ k h. inr (cc)) (λ w h. never (cc))
+  refusal_number_lem more n =
+      piece_cases (λ p. p ≡ no_record more n → (n ≡ 0) ⊎ (n ≡ 3)) (λ z h. inl (cc)) (λ b h. inr (cc)) (λ k h. inr (cc)) (λ w h. never (cc))
 
 pub begun_is_short : BegunIsShort
 begun_is_short s n = piece_cases s (λ p. p ≡ no_record true n → length s < max_record)

@@ -117,11 +117,13 @@ module _ (s : List ℕ) (c : Clock) (now : ℕ) (frame : List ℕ) where
   was_read o m e = rw e
 
   module _ (m : Located) where
-    pub got : (ka kl : ℕ) (k : List ℕ) → m ≡ Get ka kl → k ≡ field ka kl frame → gets s c (value_part s k) (lookup_answer s k) ≡ serve s c now (message_in frame m)
+    pub got : (ka kl : ℕ) (k : List ℕ) → m ≡ Get ka kl → k ≡ field ka kl frame
+        → gets s c (value_part s k) (lookup_answer s k) ≡ serve s c now (message_in frame m)
     unfolding serve
     got ka kl k e p = rw (e, p)
 
-    pub deleted : (ka kl : ℕ) (k : List ℕ) → m ≡ Del ka kl → k ≡ field ka kl frame → write_locally s k [] 1 (send_step c now) ≡ serve s c now (message_in frame m)
+    pub deleted : (ka kl : ℕ) (k : List ℕ) → m ≡ Del ka kl → k ≡ field ka kl frame
+        → write_locally s k [] 1 (send_step c now) ≡ serve s c now (message_in frame m)
     unfolding serve
     deleted ka kl k e p = rw (e, p)
 

@@ -212,7 +212,8 @@ BelowLineExactly = (s : List ℕ) (c : Clock) (now : ℕ) (frame reply : List �
 
 -- and with 6 exactly if it is such a write (R13)
 abbrev pub FullExactly : Type 0
-FullExactly = (s : List ℕ) (c : Clock) (now : ℕ) (frame reply : List ℕ) → Bytes frame → (handled s c now frame reply).refusal ≡ 6 ↔ FullWrite s c now frame reply
+FullExactly = (s : List ℕ) (c : Clock) (now : ℕ) (frame reply : List ℕ) → Bytes frame
+    → (handled s c now frame reply).refusal ≡ 6 ↔ FullWrite s c now frame reply
 
 -- ---- a request apart from the store
 -- a call on a sound store is answered by what it asks, and the store (R32, R261)

@@ -22,7 +22,8 @@ module _ (i : ℕ) (f : Row → Row) where
   own_kept [] past h = refl
   own_kept (own ∷ rows) past h = rw h
 
-  other_kept : (rows past : List Row) (k : ℕ) → ((get_or (rows ++ past) k no_row).id ≡ i → ⊥) → get_or (on_row i f rows ++ past) k no_row ≡ get_or (rows ++ past) k no_row
+  other_kept : (rows past : List Row) (k : ℕ) → ((get_or (rows ++ past) k no_row).id ≡ i → ⊥)
+      → get_or (on_row i f rows ++ past) k no_row ≡ get_or (rows ++ past) k no_row
   unfolding on_row
   other_kept [] past k h = refl
   other_kept (r ∷ rows) past zero h = cases (eqb r.id i) (λ e. absurd (h (eqb-true r.id i e))) (λ e. rw e)

@@ -91,7 +91,8 @@ pub rows_past_the_last_kept : RowsPastTheLastKept
 unfolding after_add after_heard after_reported after_tick with_rows
 rows_past_the_last_kept =
     record {
-      add = λ i a p n now t. either_way (add_answer i now t) t (added_table (new_row i a p n now) t) (PastKept t) refl (λ z. past_added (new_row i a p n now) t);
+      add = λ i a p n now t. either_way (add_answer i now t) t (added_table (new_row i a p n now) t) (PastKept t) refl (λ z. past_added
+          (new_row i a p n now) t);
       heard = λ i n now t. either_way (heard_answer i n now t) t (with_rows (on_row i (heard_row n now)) t) (PastKept t) refl
           (λ z. past_changed t (on_row i (heard_row n now)) (length_on_row i (heard_row n now) (rows_of t)));
       reported = λ i s n now t. either_way (reported_answer i s n now t) t (with_rows (on_row i (reported_row s n now)) t) (PastKept t) refl

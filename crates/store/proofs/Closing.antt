@@ -114,7 +114,12 @@ module _ (s : List ℕ) (k : Sound s) (i : ℕ) (lt : i < used_of s) where
       (omega (arith, length_moved s k i le)) in
       let f : front (u - 1) ++ (w ++ unused) ≡ front (u - 1) ++ (after ++ zeros (slot_width * (c - (u - 1)))) =
       ap (λ (l : List ℕ). front (u - 1) ++ l) (append_assoc after (zeros slot_width) unused ∙ ap (λ (l : List ℕ). after ++ l) fill) in
-      rw (moved, s1) (f ∙ sym (image_of c (line_of s) (u - 1) (take i es) (drop (suc i) es) (omega (arith, length_before s k i le, length_from s k (suc i) lt))))
+      rw (moved, s1) (f ∙ sym (image_of c (line_of s) (u - 1) (take i es) (drop (suc i) es) (omega (
+        arith,
+        length_before s k i le,
+        length_from s k
+            (suc i) lt,
+      ))))
 
 -- ---- the line written anew
 pub lined : (c old line : ℕ) (es : List Entry) → splice line_at header_fill_at (be 6 line) (image c old es) ≡ image c line es

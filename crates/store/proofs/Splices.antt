@@ -91,7 +91,8 @@ module _ (i : ℕ) (s : List ℕ) (le : i ≤ used_of s) (fits : slot_start (use
   past_raised : drop (slot_start i) raised ≡ drop (slot_start i) s
   past_raised = drop-splice used_at width_at (be 2 (used_of s + 1)) s (omega (arith, length-be 2 (used_of s + 1))) (omega arith) (slot_start i) (omega arith)
 
-  pub open_done : (n : ℕ) → n ≡ used_of s + 1 → (us : List ℕ) → us ≡ be (length (mid_of used_at 2 s)) n → (k : ℕ) → k ≡ slot_width * (used_of s - i) + slot_width
+  pub open_done : (n : ℕ) → n ≡ used_of s + 1 → (us : List ℕ) → us ≡ be (length (mid_of used_at 2 s)) n → (k : ℕ)
+      → k ≡ slot_width * (used_of s - i) + slot_width
       → (t ys : List ℕ) → t ≡ put_mid used_at 2 s us
       → ys ≡ take slot_width (mid_of (slot_start i) k t) ++ take (length (mid_of (slot_start i) k t) - slot_width) (mid_of (slot_start i) k t)
       → put_mid (slot_start i) k t ys ≡ insert_at i (slot_at i s) s

@@ -1,4 +1,3 @@
-use borrow.Author.Rules.{rules}
 use mathlib.Core.Path.{refl, ap, ◌∙◌}
 use mathlib.Core.List.{◌++◌}
 use lib.ListN.{drop}
@@ -11,7 +10,8 @@ use Rattle.capi.proofs.sp_clock_fresh.Goals as goal
 pub returns-then-clock-lt4 : goal.returns-then-clock-lt4
 returns-then-clock-lt4 c =
     let a = c.args in
-    let p = front_no_room 0 (clock_words (fresh_clock a.node)) a.clock.now _ refl c.if-clock-lt4.true c.refused.ensures in record { told = p.told; left = p.left }
+    let p = front_no_room 0 (clock_words
+    (fresh_clock a.node)) a.clock.now _ refl c.if-clock-lt4.true c.refused.ensures in record { told = p.told; left = p.left }
 
 pub returns : goal.returns
 returns c =

@@ -1,8 +1,6 @@
 use Rattle.store.proofs.Ways.{told_left}
-use borrow.Author.Rules.{rules}
 use native.Mathlib.Omega.{arith}
 use mathlib.Core.Path.{sym, ◌∙◌}
-use borrow.Author.Tests.{not-true, not-false}
 use Rattle.clock.specs.declared.Clock.{Clock}
 use Rattle.clock.specs.Clock.{receive_step}
 use Rattle.capi.proofs.Clocks.{step_no_clock, step_clock, clock_parts}

@@ -1,4 +1,3 @@
-use borrow.Author.Rules.{rules}
 use Rattle.capi.proofs.Frames.{read_refused, read_put}
 use Rattle.capi.proofs.sp_frame_read.Goals as goal
 

@@ -1,7 +1,5 @@
-use borrow.Author.Rules.{rules}
 use native.Mathlib.Omega.{arith}
 use mathlib.Core.Path.{sym, ◌∙◌}
-use borrow.Author.Tests.{not-true, not-false}
 use Rattle.node.proofs.Telling.{reply_at_most_600}
 use Rattle.capi.proofs.Clocks.{clock_parts}
 use Rattle.capi.proofs.Handles.{told_stored_moved_written, handle_no_clock, handle_clock_lem}

@@ -1,4 +1,3 @@
-use borrow.Author.Rules.{rules}
 use Rattle.capi.proofs.Stores.{entry_refused, entry_put}
 use Rattle.capi.proofs.sp_store_entry.Goals as goal
 

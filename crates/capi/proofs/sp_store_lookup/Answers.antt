@@ -1,5 +1,4 @@
 use Rattle.store.proofs.Ways.{told_left}
-use borrow.Author.Rules.{rules}
 use native.Mathlib.Omega.{arith}
 use mathlib.Core.Path.{◌≡◌, refl, ap, ◌∙◌}
 use mathlib.Core.List.{List}
@@ -14,15 +13,18 @@ use Rattle.capi.proofs.sp_store_lookup.Goals as goal
 
 pub returns-then-refusal-ne0 : goal.returns-then-refusal-ne0
 returns-then-refusal-ne0 c =
-    let refusal_is : let a = c.args in c.looked-refusal.result ≡ packed (look_refusal (lookup_answer a.store.now a.key.now)) 0 = c.looked-refusal.ensures ∙ ap (λ (f : Finding). packed (look_refusal f) 0) c.lookup-what.ensures in
+    let refusal_is : let a = c.args in c.looked-refusal.result ≡ packed (look_refusal (lookup_answer a.store.now a.key.now)) 0 =
+    c.looked-refusal.ensures ∙ ap (λ (f : Finding). packed (look_refusal f) 0) c.lookup-what.ensures in
     let a = c.args in
     let n = look_refusal (lookup_answer a.store.now a.key.now) in
     let e = refusal_is in
-    told_left (look_refused a.store.now a.key.now a.place.now _ _ (front_refused_by n _ a.place.now _ (not_none n _ e c.if-refusal-ne0.true) e) c.if-refusal-ne0.true)
+    told_left (look_refused a.store.now a.key.now a.place.now _ _ (front_refused_by n _ a.place.now _
+    (not_none n _ e c.if-refusal-ne0.true) e) c.if-refusal-ne0.true)
 
 pub returns-then-place-lt2 : goal.returns-then-place-lt2
 returns-then-place-lt2 c =
-    let refusal_is : let a = c.args in c.looked-refusal.result ≡ packed (look_refusal (lookup_answer a.store.now a.key.now)) 0 = c.looked-refusal.ensures ∙ ap (λ (f : Finding). packed (look_refusal f) 0) c.lookup-what.ensures in
+    let refusal_is : let a = c.args in c.looked-refusal.result ≡ packed (look_refusal (lookup_answer a.store.now a.key.now)) 0 =
+    c.looked-refusal.ensures ∙ ap (λ (f : Finding). packed (look_refusal f) 0) c.lookup-what.ensures in
     let a = c.args in
     let found = lookup_answer a.store.now a.key.now in
     let l = two_words found in
@@ -33,7 +35,8 @@ returns-then-place-lt2 c =
 
 pub returns : goal.returns
 returns c =
-    let refusal_is : let a = c.args in c.looked-refusal.result ≡ packed (look_refusal (lookup_answer a.store.now a.key.now)) 0 = c.looked-refusal.ensures ∙ ap (λ (f : Finding). packed (look_refusal f) 0) c.lookup-what.ensures in
+    let refusal_is : let a = c.args in c.looked-refusal.result ≡ packed (look_refusal (lookup_answer a.store.now a.key.now)) 0 =
+    c.looked-refusal.ensures ∙ ap (λ (f : Finding). packed (look_refusal f) 0) c.lookup-what.ensures in
     let a = c.args in
     let found = lookup_answer a.store.now a.key.now in
     let l = two_words found in

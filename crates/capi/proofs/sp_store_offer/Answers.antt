@@ -1,4 +1,3 @@
-use borrow.Author.Rules.{rules}
 use mathlib.Core.Path.{ap, ◌∙◌}
 use Rattle.capi.specs.Words.{stamp_from}
 use Rattle.capi.specs.Store.{store_word}
@@ -9,4 +8,9 @@ pub returns : goal.returns
 returns c =
     let a = c.args in
     let stamp = stamp_from a.phys a.logical a.node in
-    let e = c.byte_of.ensures in record { told = c.offered.ensures ∙ ap store_word (c.offer.ensures.told ∙ flag-answer a.key.now a.value.now stamp a.store.now a.flag _ e); left = c.offer.ensures.left ∙ flag-after a.key.now a.value.now stamp a.store.now a.flag _ e }
+    let e = c.byte_of.ensures in record {
+      told = c.offered.ensures ∙ ap store_word (c.offer.ensures.told
+          ∙ flag-answer a.key.now a.value.now stamp a.store.now a.flag _ e);
+      left = c.offer.ensures.left
+          ∙ flag-after a.key.now a.value.now stamp a.store.now a.flag _ e;
+    }

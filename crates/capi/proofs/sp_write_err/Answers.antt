@@ -1,5 +1,4 @@
 use Rattle.store.proofs.Ways.{told_left}
-use borrow.Author.Rules.{rules}
 use Rattle.frame.specs.Message.{err}
 use Rattle.capi.proofs.Bytes.{writes_number}
 use Rattle.capi.proofs.Frames.{wrote_small, wrote_told}

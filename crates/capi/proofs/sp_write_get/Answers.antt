@@ -1,5 +1,4 @@
 use Rattle.store.proofs.Ways.{told_left}
-use borrow.Author.Rules.{rules}
 use Rattle.frame.specs.Message.{get}
 use Rattle.capi.proofs.Frames.{wrote_small, wrote_told}
 use Rattle.capi.proofs.sp_write_get.Goals as goal

@@ -1,5 +1,4 @@
 use Rattle.store.proofs.Ways.{told_left}
-use borrow.Author.Rules.{rules}
 use Rattle.frame.specs.Message.{not_found}
 use Rattle.capi.proofs.Frames.{wrote_small, wrote_told}
 use Rattle.capi.proofs.sp_write_not_found.Goals as goal

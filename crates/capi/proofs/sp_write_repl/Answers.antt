@@ -1,5 +1,4 @@
 use Rattle.store.proofs.Ways.{told_left}
-use borrow.Author.Rules.{rules}
 use Rattle.entry.specs.Entry.{entry_of}
 use Rattle.capi.specs.Words.{stamp_from}
 use Rattle.frame.specs.Message.{repl}

@@ -1,5 +1,3 @@
-use borrow.Author.Rules.{rules}
-use native.Mathlib.Omega.{arith}
 use mathlib.Core.Path.{ap, ◌∙◌}
 use Rattle.capi_audit.specs.Audit.{count_word}
 use Rattle.capi_audit.proofs.Places.{count_small}

@@ -1,4 +1,3 @@
-use borrow.Author.Rules.{rules}
 use mathlib.Core.Path.{ap, ◌∙◌}
 use Rattle.capi_audit.specs.Audit.{explained_word}
 use Rattle.capi_audit.proofs.Places.{explained_small}

@@ -1,4 +1,3 @@
-use borrow.Author.Rules.{rules}
 use Rattle.capi_cluster.proofs.Rings.{bad_admission, form_by_table}
 use Rattle.capi_cluster.proofs.bad_form.Goals as goal
 

@@ -1,6 +1,4 @@
-use borrow.Author.Rules.{rules}
 use mathlib.Core.Path.{sym, refl, ◌∙◌}
-use borrow.Author.Tests.{not-true, not-false}
 use Rattle.capi_cluster.proofs.Events.{form_time, form_table, form_none}
 use Rattle.capi_cluster.proofs.form_refusal.Goals as goal
 

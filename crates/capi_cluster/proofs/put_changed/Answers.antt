@@ -1,4 +1,3 @@
-use borrow.Author.Rules.{rules}
 use Rattle.capi_cluster.proofs.put_changed.Goals as goal
 
 pub returns : goal.returns

@@ -1,4 +1,3 @@
-use borrow.Author.Rules.{rules}
 use mathlib.Core.Path.{refl, sym, ap, ◌∙◌}
 use mathlib.Core.List.{[], ◌∷◌}
 use Rattle.ring.specs.Answer.{position_meaning}
@@ -13,7 +12,8 @@ returns-then-position-lt1 c =
     let a = c.args in
     let e = sym (ap position_meaning c.in-At.is) ∙ c.key_position-found.ensures in
     let at = position_answer a.key.now a.salt in
-    let p = front_no_room (refusal_in at) (given_in at ∷ []) a.position.now _ (sym (ap refusal_in e)) c.if-position-lt1.true c.refused-then-position-lt1.ensures in record { told = p.told; left = p.left }
+    let p = front_no_room (refusal_in at) (given_in at ∷ []) a.position.now _ (sym
+    (ap refusal_in e)) c.if-position-lt1.true c.refused-then-position-lt1.ensures in record { told = p.told; left = p.left }
 
 pub returns-in-Refused : goal.returns-in-Refused
 returns-in-Refused c =

@@ -1,4 +1,3 @@
-use borrow.Author.Rules.{rules}
 use mathlib.Core.Path.{sym, ◌∙◌}
 use Rattle.capi_cluster.proofs.Bytes.{count_answer_lem, count_output}
 use Rattle.capi_cluster.proofs.Rings.{form_table, walk_bad, walk_done}

@@ -1,4 +1,3 @@
-use borrow.Author.Rules.{rules}
 use native.Mathlib.Omega.{arith}
 use Rattle.peers.specs.Event.{add_answer, after_add}
 use Rattle.capi_cluster.proofs.Rows.{table_parts}

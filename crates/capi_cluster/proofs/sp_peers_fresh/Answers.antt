@@ -1,4 +1,3 @@
-use borrow.Author.Rules.{rules}
 use native.Mathlib.Omega.{arith}
 use mathlib.Core.Path.{sym, ap, ◌∙◌}
 use Rattle.peers.specs.Event.{answer_number, fresh_answer, after_fresh}
@@ -20,7 +19,8 @@ returns-then-table-lt61 c =
     let z = sym c.fresh-fresh.ensures.answer ∙ ap answer_number c.in_default.is in
     let l = fresh_long a.id a.address a.port a.incarnation a.time z in
     let table = after_fresh a.id a.address a.port a.incarnation a.time in
-    let p = front_no_room (fresh_answer a.time) (table_words table) a.table.now _ z (omega arith) c.refused-then-table-lt61.ensures in record { told = p.told; left = p.left }
+    let p = front_no_room (fresh_answer a.time) (table_words table) a.table.now _ z
+    (omega arith) c.refused-then-table-lt61.ensures in record { told = p.told; left = p.left }
 
 pub returns : goal.returns
 returns c =

@@ -1,6 +1,4 @@
-use borrow.Author.Rules.{rules}
 use mathlib.Core.Path.{sym, ap, ◌∙◌}
-use borrow.Author.Tests.{not-true, not-false}
 use Rattle.capi_words.specs.Result.{flag}
 use Rattle.capi_cluster.proofs.Events.{no_table_unsound, table_sound}
 use Rattle.capi_cluster.proofs.sp_peers_is_sound.Goals as goal

@@ -1,4 +1,3 @@
-use borrow.Author.Rules.{rules}
 use native.Mathlib.Omega.{arith}
 use Rattle.peers.specs.Event.{reported_answer, after_reported}
 use Rattle.capi_cluster.proofs.Bytes.{reported_gives}

@@ -1,4 +1,3 @@
-use borrow.Author.Rules.{rules}
 use native.Mathlib.Omega.{arith}
 use Rattle.peers.specs.Event.{tick_answer, after_tick}
 use Rattle.capi_cluster.proofs.Rows.{table_parts}

@@ -1,4 +1,3 @@
-use borrow.Author.Rules.{rules}
 use native.Mathlib.Omega.{arith}
 use mathlib.Core.Path.{ap, ◌∙◌}
 use Rattle.capi_cluster.specs.Ring.{answer_word}
@@ -14,4 +13,8 @@ built-requires c =
 pub returns : goal.returns
 returns c =
     let a = c.args in
-    let e = c.byte_of.ensures in record { told = c.built.ensures ∙ ap answer_word (c.build.ensures.answer ∙ vnodes_answer a.ids.now a.vnodes _ a.ring.now e); left = c.build.ensures.output ∙ vnodes_output a.ids.now a.vnodes _ a.salt a.ring.now e }
+    let e = c.byte_of.ensures in record {
+      told = c.built.ensures ∙ ap answer_word (c.build.ensures.answer
+          ∙ vnodes_answer a.ids.now a.vnodes _ a.ring.now e);
+      left = c.build.ensures.output ∙ vnodes_output a.ids.now a.vnodes _ a.salt a.ring.now e;
+    }

@@ -1,4 +1,3 @@
-use borrow.Author.Rules.{rules}
 use mathlib.Core.Path.{ap, ◌∙◌}
 use Rattle.capi_words.specs.Result.{flag}
 use Rattle.capi_cluster.proofs.sp_ring_is_sound.Goals as goal

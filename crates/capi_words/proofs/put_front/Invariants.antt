@@ -1,16 +1,12 @@
-use borrow.Author.Rules.{rules}
-use native.Mathlib.Omega.{arith}
-use mathlib.Core.Path.{◌≡◌, refl, ap, ◌∙◌}
-use mathlib.Core.List.{List, ◌++◌}
-use Prim.Native.Nat.{ℕ, ◌-◌, ◌≤◌}
-use lib.ListN.{length, take, drop, length-set}
-use lib.Seq.{take-length}
-use Rattle.wire.proofs.Fill.{copy_step}
-use Rattle.capi_words.proofs.Fronts.{front_no_room, front_put}
+use mathlib.Core.Path.{◌≡◌}
+use mathlib.Core.List.{◌++◌}
+use Prim.Native.Nat.{◌-◌, ◌≤◌}
+use lib.ListN.{length, take, drop}
 use Rattle.capi_words.proofs.put_front.Given as goal
 
 abbrev pub invariant-loop-i : goal.invariant-loop-i
-invariant-loop-i l = (l.i ≤ length l.words) × (length l.words ≤ length l.initial.out) × (length l.out ≡ length l.initial.out) × (l.out ≡ take l.i l.words ++ drop l.i l.initial.out)
+invariant-loop-i l = (l.i ≤ length l.words) × (length l.words ≤ length l.initial.out) × (length l.out ≡ length l.initial.out)
+    × (l.out ≡ take l.i l.words ++ drop l.i l.initial.out)
 
 abbrev pub decreases-loop-i : goal.decreases-loop-i
 decreases-loop-i l = length l.words - l.i

@@ -16,17 +16,23 @@ returns-in_default c =
 
 pub overflow_add-at : goal.overflow_add-at
 overflow_add-at c =
-    let next : Turned c.args.list.now c.loop-at.at c.loop-at.n c.in-Delivery.end = turn_next c.args.list.now c.loop-at.at c.loop-at.n c.loop-at.invariant.0 c.loop-at-test.true (omega (arith, c.loop-at.invariant.1, c.if-n-eq-MAX_DELIVERIES.false)) _ c.cut_delivery-front.ensures _ _ _ _ _ _ _ c.in-Delivery.is in
+    let next : Turned c.args.list.now c.loop-at.at c.loop-at.n c.in-Delivery.end =
+    turn_next c.args.list.now c.loop-at.at c.loop-at.n c.loop-at.invariant.0 c.loop-at-test.true (omega
+    (arith, c.loop-at.invariant.1, c.if-n-eq-MAX_DELIVERIES.false)) _ c.cut_delivery-front.ensures _ _ _ _ _ _ _ c.in-Delivery.is in
     omega (arith, next.within)
 
 pub loop-at-smaller : goal.loop-at-smaller
 loop-at-smaller c =
-    let next : Turned c.args.list.now c.loop-at.at c.loop-at.n c.in-Delivery.end = turn_next c.args.list.now c.loop-at.at c.loop-at.n c.loop-at.invariant.0 c.loop-at-test.true (omega (arith, c.loop-at.invariant.1, c.if-n-eq-MAX_DELIVERIES.false)) _ c.cut_delivery-front.ensures _ _ _ _ _ _ _ c.in-Delivery.is in
+    let next : Turned c.args.list.now c.loop-at.at c.loop-at.n c.in-Delivery.end =
+    turn_next c.args.list.now c.loop-at.at c.loop-at.n c.loop-at.invariant.0 c.loop-at-test.true (omega
+    (arith, c.loop-at.invariant.1, c.if-n-eq-MAX_DELIVERIES.false)) _ c.cut_delivery-front.ensures _ _ _ _ _ _ _ c.in-Delivery.is in
     omega (arith, next.some_bytes, next.within)
 
 pub loop-at-preserved : goal.loop-at-preserved
 loop-at-preserved c =
-    let next : Turned c.args.list.now c.loop-at.at c.loop-at.n c.in-Delivery.end = turn_next c.args.list.now c.loop-at.at c.loop-at.n c.loop-at.invariant.0 c.loop-at-test.true (omega (arith, c.loop-at.invariant.1, c.if-n-eq-MAX_DELIVERIES.false)) _ c.cut_delivery-front.ensures _ _ _ _ _ _ _ c.in-Delivery.is in
+    let next : Turned c.args.list.now c.loop-at.at c.loop-at.n c.in-Delivery.end =
+    turn_next c.args.list.now c.loop-at.at c.loop-at.n c.loop-at.invariant.0 c.loop-at-test.true (omega
+    (arith, c.loop-at.invariant.1, c.if-n-eq-MAX_DELIVERIES.false)) _ c.cut_delivery-front.ensures _ _ _ _ _ _ _ c.in-Delivery.is in
     (next.counts, omega (arith, c.loop-at.invariant.1, c.if-n-eq-MAX_DELIVERIES.false), next.within)
 
 pub returns : goal.returns

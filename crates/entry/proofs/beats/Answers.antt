@@ -25,19 +25,28 @@ pub returns-in-Below : goal.returns-in-Below
 returns-in-Below c j k =
     let not_above : let a = c.args in stamp_below a.other_stamp a.stamp ≡ false = sym c.is_below.ensures ∙ c.if-is_below.false in
     let not_below : let a = c.args in stamp_below a.stamp a.other_stamp ≡ false = sym c.is_below-2.ensures ∙ c.if-is_below-2.false in
-    let values : (j k : List ℕ) → let a = c.args in bytes_below a.other_value.now a.value.now ≡ beats (entry_of j a.value.now a.flag a.stamp) (entry_of k a.other_value.now a.other_flag a.other_stamp) = λ j k. by_values _ _ not_above not_below c.if-other_flag-flag.false in
+    let values : (j k : List ℕ) → let a =
+    c.args in bytes_below a.other_value.now a.value.now
+    ≡ beats (entry_of j a.value.now a.flag a.stamp) (entry_of k a.other_value.now a.other_flag a.other_stamp) =
+    λ j k. by_values _ _ not_above not_below c.if-other_flag-flag.false in
     sym (came_below _ _ (sym c.compare-values.ensures ∙ c.in-Below.is)) ∙ values j k
 
 pub returns-in-Same : goal.returns-in-Same
 returns-in-Same c j k =
     let not_above : let a = c.args in stamp_below a.other_stamp a.stamp ≡ false = sym c.is_below.ensures ∙ c.if-is_below.false in
     let not_below : let a = c.args in stamp_below a.stamp a.other_stamp ≡ false = sym c.is_below-2.ensures ∙ c.if-is_below-2.false in
-    let values : (j k : List ℕ) → let a = c.args in bytes_below a.other_value.now a.value.now ≡ beats (entry_of j a.value.now a.flag a.stamp) (entry_of k a.other_value.now a.other_flag a.other_stamp) = λ j k. by_values _ _ not_above not_below c.if-other_flag-flag.false in
+    let values : (j k : List ℕ) → let a =
+    c.args in bytes_below a.other_value.now a.value.now
+    ≡ beats (entry_of j a.value.now a.flag a.stamp) (entry_of k a.other_value.now a.other_flag a.other_stamp) =
+    λ j k. by_values _ _ not_above not_below c.if-other_flag-flag.false in
     sym (came_same _ _ (sym c.compare-values.ensures ∙ c.in-Same.is)).0 ∙ values j k
 
 pub returns-in-Above : goal.returns-in-Above
 returns-in-Above c j k =
     let not_above : let a = c.args in stamp_below a.other_stamp a.stamp ≡ false = sym c.is_below.ensures ∙ c.if-is_below.false in
     let not_below : let a = c.args in stamp_below a.stamp a.other_stamp ≡ false = sym c.is_below-2.ensures ∙ c.if-is_below-2.false in
-    let values : (j k : List ℕ) → let a = c.args in bytes_below a.other_value.now a.value.now ≡ beats (entry_of j a.value.now a.flag a.stamp) (entry_of k a.other_value.now a.other_flag a.other_stamp) = λ j k. by_values _ _ not_above not_below c.if-other_flag-flag.false in
+    let values : (j k : List ℕ) → let a =
+    c.args in bytes_below a.other_value.now a.value.now
+    ≡ beats (entry_of j a.value.now a.flag a.stamp) (entry_of k a.other_value.now a.other_flag a.other_stamp) =
+    λ j k. by_values _ _ not_above not_below c.if-other_flag-flag.false in
     sym (came_above _ _ (sym c.compare-values.ensures ∙ c.in-Above.is)).0 ∙ values j k

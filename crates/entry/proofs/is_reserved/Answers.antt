@@ -14,10 +14,20 @@ returns-then-starts_with-2 c =
 pub returns-then-starts_with-3 : goal.returns-then-starts_with-3
 unfolding reserved
 returns-then-starts_with-3 c =
-    rw (sym c.starts_with.ensures ∙ c.if-starts_with.false, sym c.starts_with-2.ensures ∙ c.if-starts_with-2.false, sym c.starts_with-3.ensures ∙ c.if-starts_with-3.true)
+    rw (
+      sym c.starts_with.ensures ∙ c.if-starts_with.false,
+      sym c.starts_with-2.ensures ∙ c.if-starts_with-2.false,
+      sym c.starts_with-3.ensures
+          ∙ c.if-starts_with-3.true,
+    )
 
 pub returns : goal.returns
 unfolding reserved
 returns c =
-    rw (sym c.starts_with.ensures ∙ c.if-starts_with.false, sym c.starts_with-2.ensures ∙ c.if-starts_with-2.false, sym c.starts_with-3.ensures ∙ c.if-starts_with-3.false)
+    rw (
+      sym c.starts_with.ensures ∙ c.if-starts_with.false,
+      sym c.starts_with-2.ensures ∙ c.if-starts_with-2.false,
+      sym c.starts_with-3.ensures
+          ∙ c.if-starts_with-3.false,
+    )
     c.starts_with-4.ensures

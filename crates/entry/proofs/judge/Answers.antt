@@ -27,7 +27,8 @@ pub returns-then-flag-gt-TOMBSTONE : goal.returns-then-flag-gt-TOMBSTONE
 returns-then-flag-gt-TOMBSTONE c =
     let a = c.args in
     refused_flag (entry_of a.key.now a.value.now a.flag a.stamp)
-    c.if-stamp-ge-TIME_LIMIT.false (opposite_false _ _ c.is_acceptable_key.ensures (ap not c.if-not-is_acceptable_key.false)) c.if-value-gt-MAX_VALUE.false c.if-flag-gt-TOMBSTONE.true
+    c.if-stamp-ge-TIME_LIMIT.false (opposite_false _ _ c.is_acceptable_key.ensures
+    (ap not c.if-not-is_acceptable_key.false)) c.if-value-gt-MAX_VALUE.false c.if-flag-gt-TOMBSTONE.true
 
 pub returns-then-value-gt0 : goal.returns-then-value-gt0
 returns-then-value-gt0 c =
@@ -47,4 +48,5 @@ pub returns-else-flag-ne-ACTIVE : goal.returns-else-flag-ne-ACTIVE
 returns-else-flag-ne-ACTIVE c =
     let a = c.args in
     accepted_active (entry_of a.key.now a.value.now a.flag a.stamp)
-    c.if-stamp-ge-TIME_LIMIT.false (opposite_false _ _ c.is_acceptable_key.ensures (ap not c.if-not-is_acceptable_key.false)) c.if-value-gt-MAX_VALUE.false c.if-flag-ne-ACTIVE.false
+    c.if-stamp-ge-TIME_LIMIT.false (opposite_false _ _ c.is_acceptable_key.ensures
+    (ap not c.if-not-is_acceptable_key.false)) c.if-value-gt-MAX_VALUE.false c.if-flag-ne-ACTIVE.false

@@ -18,32 +18,37 @@ returns-in_default c =
 
 pub returns-then-not-is_acceptable_key : goal.returns-then-not-is_acceptable_key
 returns-then-not-is_acceptable_key c =
-    let listed : let list = c.args.deliveries.now in Readable list × (c.in-Deliveries.n ≡ length (entries_in list)) = count_readable c.args.deliveries.now _ _ c.count-counted.ensures c.in-Deliveries.is in
+    let listed : let list = c.args.deliveries.now in Readable list × (c.in-Deliveries.n ≡ length (entries_in list)) =
+    count_readable c.args.deliveries.now _ _ c.count-counted.ensures c.in-Deliveries.is in
     let a = c.args in
     told_left (says_bad_key a.deliveries.now a.key.now a.reasons.now listed.0
     (not-false _ (sym c.is_acceptable_key.ensures ∙ c.if-not-is_acceptable_key.true)))
 
 pub returns-then-reasons-n : goal.returns-then-reasons-n
 returns-then-reasons-n c =
-    let listed : let list = c.args.deliveries.now in Readable list × (c.in-Deliveries.n ≡ length (entries_in list)) = count_readable c.args.deliveries.now _ _ c.count-counted.ensures c.in-Deliveries.is in
+    let listed : let list = c.args.deliveries.now in Readable list × (c.in-Deliveries.n ≡ length (entries_in list)) =
+    count_readable c.args.deliveries.now _ _ c.count-counted.ensures c.in-Deliveries.is in
     let good_key : bad_key c.args.key.now ≡ false = not-true _ (sym c.is_acceptable_key.ensures ∙ c.if-not-is_acceptable_key.false) in
     let a = c.args in
     told_left (says_no_room a.deliveries.now a.key.now a.reasons.now listed.0 good_key (omega (arith, listed.1, c.if-reasons-n.true)))
 
 pub find_winner-best-requires : goal.find_winner-best-requires
 find_winner-best-requires c =
-    let listed : let list = c.args.deliveries.now in Readable list × (c.in-Deliveries.n ≡ length (entries_in list)) = count_readable c.args.deliveries.now _ _ c.count-counted.ensures c.in-Deliveries.is in
+    let listed : let list = c.args.deliveries.now in Readable list × (c.in-Deliveries.n ≡ length (entries_in list)) =
+    count_readable c.args.deliveries.now _ _ c.count-counted.ensures c.in-Deliveries.is in
     listed.0
 
 pub write_reasons-requires : goal.write_reasons-requires
 write_reasons-requires c =
-    let listed : let list = c.args.deliveries.now in Readable list × (c.in-Deliveries.n ≡ length (entries_in list)) = count_readable c.args.deliveries.now _ _ c.count-counted.ensures c.in-Deliveries.is in
+    let listed : let list = c.args.deliveries.now in Readable list × (c.in-Deliveries.n ≡ length (entries_in list)) =
+    count_readable c.args.deliveries.now _ _ c.count-counted.ensures c.in-Deliveries.is in
     let roomy : let a = c.args in length (entries_in a.deliveries.now) ≤ length a.reasons.now = omega (arith, listed.1, c.if-reasons-n.false) in
     (listed.0, roomy, c.find_winner-best.ensures.0, c.find_winner-best.ensures.1)
 
 pub returns-then-best : goal.returns-then-best
 returns-then-best c =
-    let listed : let list = c.args.deliveries.now in Readable list × (c.in-Deliveries.n ≡ length (entries_in list)) = count_readable c.args.deliveries.now _ _ c.count-counted.ensures c.in-Deliveries.is in
+    let listed : let list = c.args.deliveries.now in Readable list × (c.in-Deliveries.n ≡ length (entries_in list)) =
+    count_readable c.args.deliveries.now _ _ c.count-counted.ensures c.in-Deliveries.is in
     let good_key : bad_key c.args.key.now ≡ false = not-true _ (sym c.is_acceptable_key.ensures ∙ c.if-not-is_acceptable_key.false) in
     let roomy : let a = c.args in length (entries_in a.deliveries.now) ≤ length a.reasons.now = omega (arith, listed.1, c.if-reasons-n.false) in
     let a = c.args in
@@ -52,7 +57,8 @@ returns-then-best c =
 
 pub returns-else-best : goal.returns-else-best
 returns-else-best c =
-    let listed : let list = c.args.deliveries.now in Readable list × (c.in-Deliveries.n ≡ length (entries_in list)) = count_readable c.args.deliveries.now _ _ c.count-counted.ensures c.in-Deliveries.is in
+    let listed : let list = c.args.deliveries.now in Readable list × (c.in-Deliveries.n ≡ length (entries_in list)) =
+    count_readable c.args.deliveries.now _ _ c.count-counted.ensures c.in-Deliveries.is in
     let good_key : bad_key c.args.key.now ≡ false = not-true _ (sym c.is_acceptable_key.ensures ∙ c.if-not-is_acceptable_key.false) in
     let roomy : let a = c.args in length (entries_in a.deliveries.now) ≤ length a.reasons.now = omega (arith, listed.1, c.if-reasons-n.false) in
     let a = c.args in

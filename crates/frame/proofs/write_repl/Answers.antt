@@ -16,31 +16,36 @@ returns-in-Refused c = frame_refused _ _ _ _ ((sym (ap refusal_number c.in-Refus
 
 pub overflow_add-n-2 : goal.overflow_add-n-2
 overflow_add-n-2 c =
-    let accepted : let a = c.args in refusal_of (entry_of a.key.now a.value.now a.flag a.stamp) ≡ 0 = sym c.judge-judged.ensures ∙ ap refusal_number c.in_default.is in
+    let accepted : let a = c.args in refusal_of (entry_of a.key.now a.value.now a.flag a.stamp) ≡ 0 =
+    sym c.judge-judged.ensures ∙ ap refusal_number c.in_default.is in
     let k = entry_short _ accepted in omega arith
 
 pub overflow_add-n-3 : goal.overflow_add-n-3
 overflow_add-n-3 c =
-    let accepted : let a = c.args in refusal_of (entry_of a.key.now a.value.now a.flag a.stamp) ≡ 0 = sym c.judge-judged.ensures ∙ ap refusal_number c.in_default.is in
+    let accepted : let a = c.args in refusal_of (entry_of a.key.now a.value.now a.flag a.stamp) ≡ 0 =
+    sym c.judge-judged.ensures ∙ ap refusal_number c.in_default.is in
     let k = entry_short _ accepted in omega arith
 
 pub returns-then-out-n : goal.returns-then-out-n
 unfolding type_of frame_of
 returns-then-out-n c =
-    let accepted : let a = c.args in refusal_of (entry_of a.key.now a.value.now a.flag a.stamp) ≡ 0 = sym c.judge-judged.ensures ∙ ap refusal_number c.in_default.is in
+    let accepted : let a = c.args in refusal_of (entry_of a.key.now a.value.now a.flag a.stamp) ≡ 0 =
+    sym c.judge-judged.ensures ∙ ap refusal_number c.in_default.is in
     let a = c.args in
     let e = (entry_of a.key.now a.value.now a.flag a.stamp) in
     frame_no_room _ _ _ (repl_refusal e ∙ accepted) (omega (arith, length-envelope 4 (body (repl e)), length_repl e))
 
 pub seal-requires : goal.seal-requires
 seal-requires c =
-    let accepted : let a = c.args in refusal_of (entry_of a.key.now a.value.now a.flag a.stamp) ≡ 0 = sym c.judge-judged.ensures ∙ ap refusal_number c.in_default.is in
+    let accepted : let a = c.args in refusal_of (entry_of a.key.now a.value.now a.flag a.stamp) ≡ 0 =
+    sym c.judge-judged.ensures ∙ ap refusal_number c.in_default.is in
     let k = entry_short _ accepted in (omega arith, omega arith)
 
 pub returns : goal.returns
 unfolding type_of frame_of
 returns c =
-    let accepted : let a = c.args in refusal_of (entry_of a.key.now a.value.now a.flag a.stamp) ≡ 0 = sym c.judge-judged.ensures ∙ ap refusal_number c.in_default.is in
+    let accepted : let a = c.args in refusal_of (entry_of a.key.now a.value.now a.flag a.stamp) ≡ 0 =
+    sym c.judge-judged.ensures ∙ ap refusal_number c.in_default.is in
     let a = c.args in
     let e = (entry_of a.key.now a.value.now a.flag a.stamp) in
     body-written (λ (i : ℕ). body (repl e)) _ 4 (length e.key + length e.value + 13) a.out.now _ _ _ (repl_refusal e ∙ accepted) (length_repl e)

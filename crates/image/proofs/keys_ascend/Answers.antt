@@ -27,7 +27,8 @@ pub loop-i-preserved : goal.loop-i-preserved
 loop-i-preserved c =
     let used : c.loop-i.i < used_of c.args.store.now = omega (arith, c.used_count-used.ensures.is, c.loop-i-test.true) in
     let first_key : c.slot_key.result.now ≡ key_in (slot_at (c.loop-i.i - 1) c.args.store.now) = c.slot_key.ensures ∙ ap key_in c.slot.ensures in
-    let second_key : c.slot_key-in-loop-i.result.now ≡ key_in (slot_at c.loop-i.i c.args.store.now) = c.slot_key-in-loop-i.ensures ∙ ap key_in c.slot-in-loop-i.ensures in
+    let second_key : c.slot_key-in-loop-i.result.now ≡ key_in (slot_at c.loop-i.i c.args.store.now) =
+    c.slot_key-in-loop-i.ensures ∙ ap key_in c.slot-in-loop-i.ensures in
     let s = c.args.store.now in
     let next =
     keys_next s c.loop-i.i c.loop-i.invariant.1 used _ _ first_key second_key _ c.compare-order.ensures in
@@ -37,16 +38,20 @@ pub returns-in-Same : goal.returns-in-Same
 returns-in-Same c =
     let used : c.loop-i.i < used_of c.args.store.now = omega (arith, c.used_count-used.ensures.is, c.loop-i-test.true) in
     let first_key : c.slot_key.result.now ≡ key_in (slot_at (c.loop-i.i - 1) c.args.store.now) = c.slot_key.ensures ∙ ap key_in c.slot.ensures in
-    let second_key : c.slot_key-in-loop-i.result.now ≡ key_in (slot_at c.loop-i.i c.args.store.now) = c.slot_key-in-loop-i.ensures ∙ ap key_in c.slot-in-loop-i.ensures in
-    let not_ascending : (c.compare-order.result ≡ Below → ⊥) → false ≡ ascending (entries_of c.args.store.now) = λ n. let s = c.args.store.now in sym (keys_bad s c.loop-i.i c.loop-i.invariant.1 used _ _ first_key second_key _ c.compare-order.ensures n) ∙ c.loop-i.invariant.0 in
+    let second_key : c.slot_key-in-loop-i.result.now ≡ key_in (slot_at c.loop-i.i c.args.store.now) =
+    c.slot_key-in-loop-i.ensures ∙ ap key_in c.slot-in-loop-i.ensures in
+    let not_ascending : (c.compare-order.result ≡ Below → ⊥) → false ≡ ascending (entries_of c.args.store.now) = λ n. let s =
+    c.args.store.now in sym (keys_bad s c.loop-i.i c.loop-i.invariant.1 used _ _ first_key second_key _ c.compare-order.ensures n) ∙ c.loop-i.invariant.0 in
     not_ascending (λ e. same_not_below (sym c.in-Same.is ∙ e))
 
 pub returns-in-Above : goal.returns-in-Above
 returns-in-Above c =
     let used : c.loop-i.i < used_of c.args.store.now = omega (arith, c.used_count-used.ensures.is, c.loop-i-test.true) in
     let first_key : c.slot_key.result.now ≡ key_in (slot_at (c.loop-i.i - 1) c.args.store.now) = c.slot_key.ensures ∙ ap key_in c.slot.ensures in
-    let second_key : c.slot_key-in-loop-i.result.now ≡ key_in (slot_at c.loop-i.i c.args.store.now) = c.slot_key-in-loop-i.ensures ∙ ap key_in c.slot-in-loop-i.ensures in
-    let not_ascending : (c.compare-order.result ≡ Below → ⊥) → false ≡ ascending (entries_of c.args.store.now) = λ n. let s = c.args.store.now in sym (keys_bad s c.loop-i.i c.loop-i.invariant.1 used _ _ first_key second_key _ c.compare-order.ensures n) ∙ c.loop-i.invariant.0 in
+    let second_key : c.slot_key-in-loop-i.result.now ≡ key_in (slot_at c.loop-i.i c.args.store.now) =
+    c.slot_key-in-loop-i.ensures ∙ ap key_in c.slot-in-loop-i.ensures in
+    let not_ascending : (c.compare-order.result ≡ Below → ⊥) → false ≡ ascending (entries_of c.args.store.now) = λ n. let s =
+    c.args.store.now in sym (keys_bad s c.loop-i.i c.loop-i.invariant.1 used _ _ first_key second_key _ c.compare-order.ensures n) ∙ c.loop-i.invariant.0 in
     not_ascending (λ e. above_not_below (sym c.in-Above.is ∙ e))
 
 pub returns : goal.returns

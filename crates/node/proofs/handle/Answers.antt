@@ -53,7 +53,9 @@ returns-then-is_reply c =
 pub returns-in_default : goal.returns-in_default
 returns-in_default c =
     let sound-store : sound c.args.store.now ≡ true = sym c.is_sound.ensures ∙ c.if-not-is_sound.false in
-    let by_outcome : let a = c.args in serve_outcome a.store.now a.clock a.time (meaning a.frame.now c.read-outcome.result) ≡ serve_frame a.store.now a.clock a.time a.frame.now = let a = c.args in served a.store.now a.clock a.time a.frame.now a.reply.now sound-store c.if-time-ge-TIME_LIMIT.false c.if-clock-ge-TIME_LIMIT.false (sym c.is_reply.ensures ∙ c.if-is_reply.false) _ c.read-outcome.ensures in
+    let by_outcome : let a =
+    c.args in serve_outcome a.store.now a.clock a.time (meaning a.frame.now c.read-outcome.result) ≡ serve_frame a.store.now a.clock a.time a.frame.now =
+    let a = c.args in served a.store.now a.clock a.time a.frame.now a.reply.now sound-store c.if-time-ge-TIME_LIMIT.false c.if-clock-ge-TIME_LIMIT.false (sym c.is_reply.ensures ∙ c.if-is_reply.false) _ c.read-outcome.ensures in
     let a = c.args in
     refuses a.store.now a.clock a.time a.frame.now a.reply.now c.if-reply-lt-MAX_FRAME.false _ _ _ _
     (ap (λ (r : Refusal). refused (number r)) c.why.ensures
@@ -63,12 +65,19 @@ returns-in_default c =
 pub serve-requires : goal.serve-requires
 serve-requires c =
     let sound-store : sound c.args.store.now ≡ true = sym c.is_sound.ensures ∙ c.if-not-is_sound.false in
-    let is-ready : let a = c.args in Ready a.store.now a.reply.now = record { is_sound = sound-store; room = c.if-reply-lt-MAX_FRAME.false } in record { ready = is-ready; within = read_lies_within _ _ (sym c.read-outcome.ensures ∙ c.in-Message.is) }
+    let is-ready : let a = c.args in Ready a.store.now a.reply.now =
+    record { is_sound = sound-store; room = c.if-reply-lt-MAX_FRAME.false } in record {
+      ready = is-ready;
+      within = read_lies_within _ _
+          (sym c.read-outcome.ensures ∙ c.in-Message.is);
+    }
 
 pub returns : goal.returns
 returns c =
     let sound-store : sound c.args.store.now ≡ true = sym c.is_sound.ensures ∙ c.if-not-is_sound.false in
-    let by_outcome : let a = c.args in serve_outcome a.store.now a.clock a.time (meaning a.frame.now c.read-outcome.result) ≡ serve_frame a.store.now a.clock a.time a.frame.now = let a = c.args in served a.store.now a.clock a.time a.frame.now a.reply.now sound-store c.if-time-ge-TIME_LIMIT.false c.if-clock-ge-TIME_LIMIT.false (sym c.is_reply.ensures ∙ c.if-is_reply.false) _ c.read-outcome.ensures in
+    let by_outcome : let a =
+    c.args in serve_outcome a.store.now a.clock a.time (meaning a.frame.now c.read-outcome.result) ≡ serve_frame a.store.now a.clock a.time a.frame.now =
+    let a = c.args in served a.store.now a.clock a.time a.frame.now a.reply.now sound-store c.if-time-ge-TIME_LIMIT.false c.if-clock-ge-TIME_LIMIT.false (sym c.is_reply.ensures ∙ c.if-is_reply.false) _ c.read-outcome.ensures in
     let a = c.args in
     handles a.store.now a.clock a.time a.frame.now a.reply.now c.if-reply-lt-MAX_FRAME.false _ _ _ _
     (was_read a.store.now a.clock a.time a.frame.now _ _ c.in-Message.is ∙ by_outcome)

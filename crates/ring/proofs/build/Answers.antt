@@ -23,7 +23,9 @@ returns-then-ring-places c =
 
 pub fill-requires : goal.fill-requires
 fill-requires c =
-    let fit : bad_arguments c.args.ids.now c.args.vnodes ≡ false = sym c.bad_arguments.ensures ∙ c.if-bad_arguments.false in record { room = rw length-places c.if-ring-places.false; most = rw length-places (fit_640 _ _ fit) }
+    let fit : bad_arguments c.args.ids.now c.args.vnodes ≡ false =
+    sym c.bad_arguments.ensures
+    ∙ c.if-bad_arguments.false in record { room = rw length-places c.if-ring-places.false; most = rw length-places (fit_640 _ _ fit) }
 
 pub returns : goal.returns
 returns c =

@@ -31,7 +31,8 @@ pub returns-then-met-wanted : goal.returns-then-met-wanted
 returns-then-met-wanted c =
     let fit : bad_request c.args.peers c.args.count ≡ false = sym c.bad_request.ensures ∙ c.if-bad_request.false in
     let sound : sound_ring c.args.ring.now ≡ true = sym c.is_sound.ensures ∙ c.if-not-is_sound.false in
-    let counted : let a = c.args in c.walk-taken.result.count ≡ min a.count (admitted_with_place (admits a.admission a.peers) a.ring.now) = let a = c.args in count_met _ _ _ c.admitted-flags.ensures _ a.position _ _ _ _ c.start.ensures c.walk-taken.ensures (at_most_3 _ _ fit) in
+    let counted : let a = c.args in c.walk-taken.result.count ≡ min a.count (admitted_with_place (admits a.admission a.peers) a.ring.now) = let a =
+    c.args in count_met _ _ _ c.admitted-flags.ensures _ a.position _ _ _ _ c.start.ensures c.walk-taken.ensures (at_most_3 _ _ fit) in
     answer_output (says _ _ _ _ _ _ (refuses 10)
     (too_few _ _ _ _ _ fit sound (omega (arith, counted))))
 
@@ -39,7 +40,8 @@ pub returns-then-out-wanted : goal.returns-then-out-wanted
 returns-then-out-wanted c =
     let fit : bad_request c.args.peers c.args.count ≡ false = sym c.bad_request.ensures ∙ c.if-bad_request.false in
     let sound : sound_ring c.args.ring.now ≡ true = sym c.is_sound.ensures ∙ c.if-not-is_sound.false in
-    let counted : let a = c.args in c.walk-taken.result.count ≡ min a.count (admitted_with_place (admits a.admission a.peers) a.ring.now) = let a = c.args in count_met _ _ _ c.admitted-flags.ensures _ a.position _ _ _ _ c.start.ensures c.walk-taken.ensures (at_most_3 _ _ fit) in
+    let counted : let a = c.args in c.walk-taken.result.count ≡ min a.count (admitted_with_place (admits a.admission a.peers) a.ring.now) = let a =
+    c.args in count_met _ _ _ c.admitted-flags.ensures _ a.position _ _ _ _ c.start.ensures c.walk-taken.ensures (at_most_3 _ _ fit) in
     answer_output (says _ _ _ _ _ _ (refuses 4)
     (no_room _ _ _ _ _ fit sound (omega (arith, counted)) c.if-out-wanted.true))
 
@@ -54,7 +56,8 @@ pub returns : goal.returns
 returns c =
     let fit : bad_request c.args.peers c.args.count ≡ false = sym c.bad_request.ensures ∙ c.if-bad_request.false in
     let sound : sound_ring c.args.ring.now ≡ true = sym c.is_sound.ensures ∙ c.if-not-is_sound.false in
-    let counted : let a = c.args in c.walk-taken.result.count ≡ min a.count (admitted_with_place (admits a.admission a.peers) a.ring.now) = let a = c.args in count_met _ _ _ c.admitted-flags.ensures _ a.position _ _ _ _ c.start.ensures c.walk-taken.ensures (at_most_3 _ _ fit) in
+    let counted : let a = c.args in c.walk-taken.result.count ≡ min a.count (admitted_with_place (admits a.admission a.peers) a.ring.now) = let a =
+    c.args in count_met _ _ _ c.admitted-flags.ensures _ a.position _ _ _ _ c.start.ensures c.walk-taken.ensures (at_most_3 _ _ fit) in
     let a = c.args in
     answer_output (all_written _ _ _ _ _ fit sound (omega (arith, counted)) _ _ c.if-out-wanted.false
     (c.put.ensures

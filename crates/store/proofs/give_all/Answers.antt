@@ -18,7 +18,8 @@ loop-given-init c = (refl, refl)
 pub give-requires : goal.give-requires
 give-requires c =
     let used-slot : c.loop-given.given < used_of c.args.giver.now = omega (arith, c.used_count-used.ensures.is, c.loop-given-test.true) in
-    let sealed-slot : let t = slot_at c.loop-given.given c.args.giver.now in t ≡ slot_bytes (slot_entry t) = let g = c.args.giver.now in slot_is g (sound_is g c.requires) c.loop-given.given used-slot in
+    let sealed-slot : let t = slot_at c.loop-given.given c.args.giver.now in t ≡ slot_bytes (slot_entry t) = let g =
+    c.args.giver.now in slot_is g (sound_is g c.requires) c.loop-given.given used-slot in
     ap length (c.slot.ensures ∙ sealed-slot) ∙ length_slot _
 
 pub overflow_add-given : goal.overflow_add-given
@@ -33,7 +34,8 @@ pub loop-given-preserved : goal.loop-given-preserved
 unfolding after_placed
 loop-given-preserved c =
     let used-slot : c.loop-given.given < used_of c.args.giver.now = omega (arith, c.used_count-used.ensures.is, c.loop-given-test.true) in
-    let sealed-slot : let t = slot_at c.loop-given.given c.args.giver.now in t ≡ slot_bytes (slot_entry t) = let g = c.args.giver.now in slot_is g (sound_is g c.requires) c.loop-given.given used-slot in
+    let sealed-slot : let t = slot_at c.loop-given.given c.args.giver.now in t ≡ slot_bytes (slot_entry t) = let g =
+    c.args.giver.now in slot_is g (sound_is g c.requires) c.loop-given.given used-slot in
     let l = c.loop-given in
     let g = c.args.giver.now in
     let t = slot_at l.given g in

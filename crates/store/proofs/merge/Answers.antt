@@ -48,7 +48,8 @@ pub returns-then-slot_count-used_count : goal.returns-then-slot_count-used_count
 returns-then-slot_count-used_count c =
     let receiver-sound : sound c.args.receiver.now ≡ true = sym c.is_sound.ensures ∙ c.if-not-is_sound.false in
     let giver-sound : sound c.args.giver.now ≡ true = sym c.is_sound-2.ensures ∙ c.if-not-is_sound-2.false in
-    let lines : let a = c.args in line_of a.receiver.now ≡ line_of a.giver.now = sym c.purge_line.ensures.is ∙ c.if-purge_line.false ∙ c.purge_line-2.ensures.is in
+    let lines : let a = c.args in line_of a.receiver.now ≡ line_of a.giver.now =
+    sym c.purge_line.ensures.is ∙ c.if-purge_line.false ∙ c.purge_line-2.ensures.is in
     let a = c.args in
     told_left (merge_6 a.receiver.now a.giver.now receiver-sound giver-sound lines _ _ _ _
     c.slot_count.ensures.is c.used_count.ensures.is c.count_new-counts.ensures c.if-slot_count-used_count.true)
@@ -62,7 +63,8 @@ pub returns : goal.returns
 returns c =
     let receiver-sound : sound c.args.receiver.now ≡ true = sym c.is_sound.ensures ∙ c.if-not-is_sound.false in
     let giver-sound : sound c.args.giver.now ≡ true = sym c.is_sound-2.ensures ∙ c.if-not-is_sound-2.false in
-    let lines : let a = c.args in line_of a.receiver.now ≡ line_of a.giver.now = sym c.purge_line.ensures.is ∙ c.if-purge_line.false ∙ c.purge_line-2.ensures.is in
+    let lines : let a = c.args in line_of a.receiver.now ≡ line_of a.giver.now =
+    sym c.purge_line.ensures.is ∙ c.if-purge_line.false ∙ c.purge_line-2.ensures.is in
     let a = c.args in
     told_left (merge_done a.receiver.now a.giver.now receiver-sound giver-sound lines _ _ _ _
     c.slot_count.ensures.is c.used_count.ensures.is c.count_new-counts.ensures c.if-slot_count-used_count.false _ c.give_all.ensures)

@@ -14,4 +14,9 @@ returns-then-not-is_sound c =
 pub returns : goal.returns
 returns c =
     let a = c.args in
-    let u = unchecked_on_sound a.store.now (sym c.is_sound.ensures ∙ c.if-not-is_sound.false) in record { told = c.offer_unchecked.ensures.told ∙ u.offer (entry_of a.key.now a.value.now a.flag a.stamp); left = c.offer_unchecked.ensures.left ∙ u.after (entry_of a.key.now a.value.now a.flag a.stamp) }
+    let u = unchecked_on_sound a.store.now (sym c.is_sound.ensures ∙ c.if-not-is_sound.false) in record {
+      told = c.offer_unchecked.ensures.told
+          ∙ u.offer (entry_of a.key.now a.value.now a.flag a.stamp);
+      left =
+          c.offer_unchecked.ensures.left ∙ u.after (entry_of a.key.now a.value.now a.flag a.stamp);
+    }

@@ -42,7 +42,11 @@ unfolding after_placed
 returns-in-Kept c =
     let a = c.args in
     let e = entry_of a.key.now a.value.now a.flag a.stamp in
-    let k = c.placement_of-placement.ensures in record { told = told_as a.store.now e _ k _ c.in-Kept.is; left = left_as a.store.now e _ k _ c.in-Kept.is (slot_bytes e) _ refl }
+    let k = c.placement_of-placement.ensures in record {
+      told = told_as a.store.now e _ k _ c.in-Kept.is;
+      left = left_as a.store.now e _ k _ c.in-Kept.is
+          (slot_bytes e) _ refl;
+    }
 
 pub returns-in-Refused : goal.returns-in-Refused
 unfolding after_placed

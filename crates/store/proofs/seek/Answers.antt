@@ -16,7 +16,8 @@ unfolding slot_entry
 returns-in-Below c =
     let used : c.loop-i.i < used_of c.args.store.now = omega (arith, c.used_count-used.ensures.is, c.loop-i-test.true) in
     let small : c.loop-i.i < 65536 = omega (arith, c.used_count-used.ensures.small, c.loop-i-test.true) in
-    let compared : let a = c.args in c.compare-order.result ≡ comparison a.key.now (slot_entry (slot_at c.loop-i.i a.store.now)).key = let key = c.args.key.now in c.compare-order.ensures ∙ ap (comparison key) (c.slot_key.ensures ∙ ap key_in c.slot.ensures) in
+    let compared : let a = c.args in c.compare-order.result ≡ comparison a.key.now (slot_entry (slot_at c.loop-i.i a.store.now)).key = let key =
+    c.args.key.now in c.compare-order.ensures ∙ ap (comparison key) (c.slot_key.ensures ∙ ap key_in c.slot.ensures) in
     let a = c.args in
     let i = c.loop-i.i in
     seek_below a.key.now _ i c.loop-i.invariant.0 small _ (entry_at i a.store.now used) _
@@ -27,7 +28,8 @@ unfolding slot_entry
 returns-in-Same c =
     let used : c.loop-i.i < used_of c.args.store.now = omega (arith, c.used_count-used.ensures.is, c.loop-i-test.true) in
     let small : c.loop-i.i < 65536 = omega (arith, c.used_count-used.ensures.small, c.loop-i-test.true) in
-    let compared : let a = c.args in c.compare-order.result ≡ comparison a.key.now (slot_entry (slot_at c.loop-i.i a.store.now)).key = let key = c.args.key.now in c.compare-order.ensures ∙ ap (comparison key) (c.slot_key.ensures ∙ ap key_in c.slot.ensures) in
+    let compared : let a = c.args in c.compare-order.result ≡ comparison a.key.now (slot_entry (slot_at c.loop-i.i a.store.now)).key = let key =
+    c.args.key.now in c.compare-order.ensures ∙ ap (comparison key) (c.slot_key.ensures ∙ ap key_in c.slot.ensures) in
     let a = c.args in
     let i = c.loop-i.i in
     seek_same a.key.now _ i c.loop-i.invariant.0 small _ (entry_at i a.store.now used) _
@@ -45,7 +47,8 @@ unfolding slot_entry
 loop-i-preserved c =
     let used : c.loop-i.i < used_of c.args.store.now = omega (arith, c.used_count-used.ensures.is, c.loop-i-test.true) in
     let small : c.loop-i.i < 65536 = omega (arith, c.used_count-used.ensures.small, c.loop-i-test.true) in
-    let compared : let a = c.args in c.compare-order.result ≡ comparison a.key.now (slot_entry (slot_at c.loop-i.i a.store.now)).key = let key = c.args.key.now in c.compare-order.ensures ∙ ap (comparison key) (c.slot_key.ensures ∙ ap key_in c.slot.ensures) in
+    let compared : let a = c.args in c.compare-order.result ≡ comparison a.key.now (slot_entry (slot_at c.loop-i.i a.store.now)).key = let key =
+    c.args.key.now in c.compare-order.ensures ∙ ap (comparison key) (c.slot_key.ensures ∙ ap key_in c.slot.ensures) in
     let a = c.args in
     let i = c.loop-i.i in
     let above = seek_above a.key.now _ i c.loop-i.invariant.0 small _ (entry_at i a.store.now used) _ compared in

@@ -36,4 +36,5 @@ returns c =
     let l = c.loop-i in
     let s = c.args.s.now in
     let e : l.i ≡ length s = omega arith in
-    l.invariant.0 ∙ ap (λ (n : ℕ). same_bytes (take n s) (zeros n)) e ∙ ap (λ (t : List ℕ). same_bytes t (zeros (length s))) (take_all (length s) s (omega arith))
+    l.invariant.0 ∙ ap (λ (n : ℕ). same_bytes (take n s) (zeros n)) e
+    ∙ ap (λ (t : List ℕ). same_bytes t (zeros (length s))) (take_all (length s) s (omega arith))

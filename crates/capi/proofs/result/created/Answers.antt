@@ -1,4 +1,3 @@
-use borrow.Author.Rules.{rules}
 use Rattle.capi.proofs.result.created.Goals as goal
 
 pub returns-in-Fresh : goal.returns-in-Fresh

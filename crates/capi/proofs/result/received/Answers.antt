@@ -1,4 +1,3 @@
-use borrow.Author.Rules.{rules}
 use Rattle.capi.proofs.result.received.Goals as goal
 
 pub returns-in-Received : goal.returns-in-Received

@@ -1,4 +1,3 @@
-use borrow.Author.Rules.{rules}
 use Rattle.capi.proofs.result.sent.Goals as goal
 
 pub returns-in-Stamped : goal.returns-in-Stamped

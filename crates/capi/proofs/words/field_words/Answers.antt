@@ -1,4 +1,3 @@
-use borrow.Author.Rules.{rules}
 use Rattle.capi.proofs.words.field_words.Goals as goal
 
 pub returns-in-Put : goal.returns-in-Put

@@ -1,4 +1,3 @@
-use borrow.Author.Rules.{rules}
 use Rattle.capi.proofs.Clocks.{no_clock_length, no_clock_logical, no_clock_node, clock_skew}
 use Rattle.capi.proofs.words.is_clock.Goals as goal
 

@@ -1,4 +1,3 @@
-use borrow.Author.Rules.{rules}
 use mathlib.Core.Path.{◌∙◌}
 use Rattle.capi.specs.Words.{clock_words}
 use Rattle.capi_words.proofs.Fronts.{front_room}

@@ -1,4 +1,3 @@
-use borrow.Author.Rules.{rules}
 use Rattle.capi_cluster.proofs.result.noted.Goals as goal
 
 pub returns-in-Done : goal.returns-in-Done

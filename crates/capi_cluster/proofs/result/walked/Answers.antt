@@ -1,4 +1,3 @@
-use borrow.Author.Rules.{rules}
 use Rattle.capi_cluster.proofs.result.walked.Goals as goal
 
 pub returns-in-Found : goal.returns-in-Found

@@ -1,4 +1,3 @@
-use borrow.Author.Rules.{rules}
 use mathlib.Core.Path.{◌∙◌}
 use Rattle.capi_cluster.proofs.Rows.{no_table_length, no_table_count, table_rows}
 use Rattle.capi_cluster.proofs.words.is_table.Goals as goal

@@ -1,14 +1,12 @@
-use borrow.Author.Rules.{rules}
 use native.Mathlib.Omega.{arith}
 use mathlib.Core.Path.{◌≡◌, ap, ◌∙◌}
 use mathlib.Core.List.{List}
-use Prim.Native.Nat.{ℕ, ◌+◌, ◌≤◌, ◌-◌}
-use lib.ListN.{length, length-set, length-map}
+use Prim.Native.Nat.{ℕ, ◌+◌, ◌-◌}
+use lib.ListN.{length, length-set}
 use borrow.Rule.Slice.PartMut.{mid_of}
-use Rattle.wire.proofs.Writing.{Written}
 use Rattle.frame.specs.Writing.{after_write}
 use Rattle.capi_cluster.specs.Words.{row_at}
-use Rattle.capi_cluster.proofs.Rows.{words_to, written-length, write_none, write_row, write_all}
+use Rattle.capi_cluster.proofs.Rows.{written-length, write_none, write_row, write_all}
 use Rattle.capi_cluster.proofs.words.put_table.Goals as goal
 
 pub loop-k-init : goal.loop-k-init

@@ -1,14 +1,8 @@
-use borrow.Author.Rules.{rules}
-use native.Mathlib.Omega.{arith}
-use mathlib.Core.Path.{◌≡◌, ap, ◌∙◌}
-use mathlib.Core.List.{List}
-use Prim.Native.Nat.{ℕ, ◌+◌, ◌≤◌, ◌-◌}
-use lib.ListN.{length, length-set, length-map}
-use borrow.Rule.Slice.PartMut.{mid_of}
+use Prim.Native.Nat.{◌≤◌, ◌-◌}
+use lib.ListN.{length}
 use Rattle.wire.proofs.Writing.{Written}
-use Rattle.frame.specs.Writing.{after_write}
 use Rattle.capi_cluster.specs.Words.{row_at}
-use Rattle.capi_cluster.proofs.Rows.{words_to, written-length, write_none, write_row, write_all}
+use Rattle.capi_cluster.proofs.Rows.{words_to}
 use Rattle.capi_cluster.proofs.words.put_table.Given as goal
 
 abbrev pub invariant-loop-k : goal.invariant-loop-k

@@ -1,4 +1,3 @@
-use borrow.Author.Rules.{rules}
 use Rattle.capi_cluster.proofs.Rows.{unfit_id, unfit_address, unfit_port, unfit_state, fits_incarnation}
 use Rattle.capi_cluster.proofs.words.row_fits.Goals as goal
 

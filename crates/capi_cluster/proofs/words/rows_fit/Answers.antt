@@ -1,9 +1,5 @@
-use borrow.Author.Rules.{rules}
 use native.Mathlib.Omega.{arith}
-use mathlib.Core.Path.{◌≡◌, sym, ◌∙◌}
-use Prim.Native.Nat.{◌≤◌, ◌-◌}
-use borrow.Author.Tests.{not-true, not-false}
-use Rattle.capi_cluster.specs.Words.{rows_fit}
+use mathlib.Core.Path.{sym, ◌∙◌}
 use Rattle.capi_cluster.proofs.Rows.{fit_next, fit_stop, fit_none}
 use Rattle.capi_cluster.proofs.words.rows_fit.Goals as goal
 

@@ -1,10 +1,6 @@
-use borrow.Author.Rules.{rules}
-use native.Mathlib.Omega.{arith}
-use mathlib.Core.Path.{◌≡◌, sym, ◌∙◌}
-use Prim.Native.Nat.{◌≤◌, ◌-◌}
-use borrow.Author.Tests.{not-true, not-false}
+use mathlib.Core.Path.{◌≡◌}
+use Prim.Native.Nat.{◌≤◌}
 use Rattle.capi_cluster.specs.Words.{rows_fit}
-use Rattle.capi_cluster.proofs.Rows.{fit_next, fit_stop, fit_none}
 use Rattle.capi_cluster.proofs.words.rows_fit.Given as goal
 
 abbrev pub invariant-loop-left : goal.invariant-loop-left

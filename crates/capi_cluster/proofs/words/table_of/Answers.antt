@@ -1,8 +1,6 @@
-use borrow.Author.Rules.{rules}
 use native.Mathlib.Omega.{arith}
-use mathlib.Core.Path.{◌≡◌, refl}
-use Prim.Native.Nat.{◌≤◌, ◌-◌}
-use lib.ListN.{length, take, length-set}
+use mathlib.Core.Path.{refl}
+use lib.ListN.{length-set}
 use Rattle.capi_cluster.specs.Words.{rows_of}
 use Rattle.capi_cluster.proofs.Rows.{table_parts, fit_at, read_next, table_read}
 use Rattle.capi_cluster.proofs.words.table_of.Goals as goal

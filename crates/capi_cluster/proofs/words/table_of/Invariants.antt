@@ -1,10 +1,7 @@
-use borrow.Author.Rules.{rules}
-use native.Mathlib.Omega.{arith}
-use mathlib.Core.Path.{◌≡◌, refl}
+use mathlib.Core.Path.{◌≡◌}
 use Prim.Native.Nat.{◌≤◌, ◌-◌}
-use lib.ListN.{length, take, length-set}
+use lib.ListN.{length, take}
 use Rattle.capi_cluster.specs.Words.{rows_of}
-use Rattle.capi_cluster.proofs.Rows.{table_parts, fit_at, read_next, table_read}
 use Rattle.capi_cluster.proofs.words.table_of.Given as goal
 
 abbrev pub invariant-loop-k : goal.invariant-loop-k

@@ -16,17 +16,20 @@ next_best-best-requires c = (c.loop-at.invariant.2, c.peek-seen.ensures.1)
 
 pub overflow_add-place : goal.overflow_add-place
 overflow_add-place c =
-    let met : let l = c.loop-at in Step c.args.list.now c.args.key.now (entries_in c.args.list.now) l.at l.place c.peek-seen.result = step c.loop-at.invariant.0 c.loop-at-test.true _ _ c.peek-seen.ensures.0 in
+    let met : let l = c.loop-at in Step c.args.list.now c.args.key.now (entries_in c.args.list.now) l.at l.place c.peek-seen.result =
+    step c.loop-at.invariant.0 c.loop-at-test.true _ _ c.peek-seen.ensures.0 in
     omega (arith, met.more, most c.args.list.now c.requires)
 
 pub loop-at-smaller : goal.loop-at-smaller
 loop-at-smaller c =
-    let met : let l = c.loop-at in Step c.args.list.now c.args.key.now (entries_in c.args.list.now) l.at l.place c.peek-seen.result = step c.loop-at.invariant.0 c.loop-at-test.true _ _ c.peek-seen.ensures.0 in
+    let met : let l = c.loop-at in Step c.args.list.now c.args.key.now (entries_in c.args.list.now) l.at l.place c.peek-seen.result =
+    step c.loop-at.invariant.0 c.loop-at-test.true _ _ c.peek-seen.ensures.0 in
     omega (arith, met.farther, met.next.within)
 
 pub loop-at-preserved : goal.loop-at-preserved
 loop-at-preserved c =
-    let met : let l = c.loop-at in Step c.args.list.now c.args.key.now (entries_in c.args.list.now) l.at l.place c.peek-seen.result = step c.loop-at.invariant.0 c.loop-at-test.true _ _ c.peek-seen.ensures.0 in
+    let met : let l = c.loop-at in Step c.args.list.now c.args.key.now (entries_in c.args.list.now) l.at l.place c.peek-seen.result =
+    step c.loop-at.invariant.0 c.loop-at-test.true _ _ c.peek-seen.ensures.0 in
     let l = c.loop-at in
     (met.next, rw c.next_best-best.ensures.0 (so_far_next met l.best l.invariant.1), c.next_best-best.ensures.1)
 

@@ -17,22 +17,26 @@ byte_of-requires c = (c.requires.3, c.peek-seen.ensures.1)
 
 pub bounds-reasons-place : goal.bounds-reasons-place
 bounds-reasons-place c =
-    let met : let l = c.loop-at in Step c.args.list.now c.args.key.now (entries_in c.args.list.now) l.at l.place c.peek-seen.result = step c.loop-at.invariant.0 c.loop-at-test.true _ _ c.peek-seen.ensures.0 in
+    let met : let l = c.loop-at in Step c.args.list.now c.args.key.now (entries_in c.args.list.now) l.at l.place c.peek-seen.result =
+    step c.loop-at.invariant.0 c.loop-at-test.true _ _ c.peek-seen.ensures.0 in
     omega (arith, met.more, c.requires.1, c.loop-at.invariant.1)
 
 pub overflow_add-place : goal.overflow_add-place
 overflow_add-place c =
-    let met : let l = c.loop-at in Step c.args.list.now c.args.key.now (entries_in c.args.list.now) l.at l.place c.peek-seen.result = step c.loop-at.invariant.0 c.loop-at-test.true _ _ c.peek-seen.ensures.0 in
+    let met : let l = c.loop-at in Step c.args.list.now c.args.key.now (entries_in c.args.list.now) l.at l.place c.peek-seen.result =
+    step c.loop-at.invariant.0 c.loop-at-test.true _ _ c.peek-seen.ensures.0 in
     omega (arith, met.more, most c.args.list.now c.requires.0)
 
 pub loop-at-smaller : goal.loop-at-smaller
 loop-at-smaller c =
-    let met : let l = c.loop-at in Step c.args.list.now c.args.key.now (entries_in c.args.list.now) l.at l.place c.peek-seen.result = step c.loop-at.invariant.0 c.loop-at-test.true _ _ c.peek-seen.ensures.0 in
+    let met : let l = c.loop-at in Step c.args.list.now c.args.key.now (entries_in c.args.list.now) l.at l.place c.peek-seen.result =
+    step c.loop-at.invariant.0 c.loop-at-test.true _ _ c.peek-seen.ensures.0 in
     omega (arith, met.farther, met.next.within)
 
 pub loop-at-preserved : goal.loop-at-preserved
 loop-at-preserved c =
-    let met : let l = c.loop-at in Step c.args.list.now c.args.key.now (entries_in c.args.list.now) l.at l.place c.peek-seen.result = step c.loop-at.invariant.0 c.loop-at-test.true _ _ c.peek-seen.ensures.0 in
+    let met : let l = c.loop-at in Step c.args.list.now c.args.key.now (entries_in c.args.list.now) l.at l.place c.peek-seen.result =
+    step c.loop-at.invariant.0 c.loop-at-test.true _ _ c.peek-seen.ensures.0 in
     let l = c.loop-at in (
       met.next,
       simp length-set l.invariant.1,

@@ -13,19 +13,22 @@ returns-then-not-value_ends c = put_left_over _ _ c.key_length-key_len.ensures.0
 pub slice_bounds-value-count : goal.slice_bounds-value-count
 slice_bounds-value-count c =
     let ends : value_ends (c.key_length-key_len.result + 5) c.args.frame.now ≡ true = sym c.value_ends.ensures ∙ c.if-not-value_ends.false in
-    let long : length c.args.frame.now ≡ c.key_length-key_len.result + 7 + vlen (c.key_length-key_len.result + 5) c.args.frame.now + 4 = ends_length (c.key_length-key_len.result + 5) (c.key_length-key_len.result + 7) c.args.frame.now (omega arith) ends in
+    let long : length c.args.frame.now ≡ c.key_length-key_len.result + 7 + vlen (c.key_length-key_len.result + 5) c.args.frame.now + 4 =
+    ends_length (c.key_length-key_len.result + 5) (c.key_length-key_len.result + 7) c.args.frame.now (omega arith) ends in
     omega (arith, long)
 
 pub slice_bounds-value-start : goal.slice_bounds-value-start
 slice_bounds-value-start c =
     let ends : value_ends (c.key_length-key_len.result + 5) c.args.frame.now ≡ true = sym c.value_ends.ensures ∙ c.if-not-value_ends.false in
-    let long : length c.args.frame.now ≡ c.key_length-key_len.result + 7 + vlen (c.key_length-key_len.result + 5) c.args.frame.now + 4 = ends_length (c.key_length-key_len.result + 5) (c.key_length-key_len.result + 7) c.args.frame.now (omega arith) ends in
+    let long : length c.args.frame.now ≡ c.key_length-key_len.result + 7 + vlen (c.key_length-key_len.result + 5) c.args.frame.now + 4 =
+    ends_length (c.key_length-key_len.result + 5) (c.key_length-key_len.result + 7) c.args.frame.now (omega arith) ends in
     omega (arith, long)
 
 pub slice_bounds-judge-end : goal.slice_bounds-judge-end
 slice_bounds-judge-end c =
     let ends : value_ends (c.key_length-key_len.result + 5) c.args.frame.now ≡ true = sym c.value_ends.ensures ∙ c.if-not-value_ends.false in
-    let long : length c.args.frame.now ≡ c.key_length-key_len.result + 7 + vlen (c.key_length-key_len.result + 5) c.args.frame.now + 4 = ends_length (c.key_length-key_len.result + 5) (c.key_length-key_len.result + 7) c.args.frame.now (omega arith) ends in
+    let long : length c.args.frame.now ≡ c.key_length-key_len.result + 7 + vlen (c.key_length-key_len.result + 5) c.args.frame.now + 4 =
+    ends_length (c.key_length-key_len.result + 5) (c.key_length-key_len.result + 7) c.args.frame.now (omega arith) ends in
     omega (arith, long)
 
 pub returns : goal.returns

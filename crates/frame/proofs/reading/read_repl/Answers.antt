@@ -14,19 +14,22 @@ returns-then-not-value_ends c = repl_left_over _ _ c.key_length-key_len.ensures.
 pub slice_bounds-value-count : goal.slice_bounds-value-count
 slice_bounds-value-count c =
     let ends : value_ends (c.key_length-key_len.result + 15) c.args.frame.now ≡ true = sym c.value_ends.ensures ∙ c.if-not-value_ends.false in
-    let long : length c.args.frame.now ≡ c.key_length-key_len.result + 17 + vlen (c.key_length-key_len.result + 15) c.args.frame.now + 4 = ends_length (c.key_length-key_len.result + 15) (c.key_length-key_len.result + 17) c.args.frame.now (omega arith) ends in
+    let long : length c.args.frame.now ≡ c.key_length-key_len.result + 17 + vlen (c.key_length-key_len.result + 15) c.args.frame.now + 4 =
+    ends_length (c.key_length-key_len.result + 15) (c.key_length-key_len.result + 17) c.args.frame.now (omega arith) ends in
     omega (arith, long)
 
 pub slice_bounds-value-start : goal.slice_bounds-value-start
 slice_bounds-value-start c =
     let ends : value_ends (c.key_length-key_len.result + 15) c.args.frame.now ≡ true = sym c.value_ends.ensures ∙ c.if-not-value_ends.false in
-    let long : length c.args.frame.now ≡ c.key_length-key_len.result + 17 + vlen (c.key_length-key_len.result + 15) c.args.frame.now + 4 = ends_length (c.key_length-key_len.result + 15) (c.key_length-key_len.result + 17) c.args.frame.now (omega arith) ends in
+    let long : length c.args.frame.now ≡ c.key_length-key_len.result + 17 + vlen (c.key_length-key_len.result + 15) c.args.frame.now + 4 =
+    ends_length (c.key_length-key_len.result + 15) (c.key_length-key_len.result + 17) c.args.frame.now (omega arith) ends in
     omega (arith, long)
 
 pub bounds-frame-key_end : goal.bounds-frame-key_end
 bounds-frame-key_end c =
     let ends : value_ends (c.key_length-key_len.result + 15) c.args.frame.now ≡ true = sym c.value_ends.ensures ∙ c.if-not-value_ends.false in
-    let long : length c.args.frame.now ≡ c.key_length-key_len.result + 17 + vlen (c.key_length-key_len.result + 15) c.args.frame.now + 4 = ends_length (c.key_length-key_len.result + 15) (c.key_length-key_len.result + 17) c.args.frame.now (omega arith) ends in
+    let long : length c.args.frame.now ≡ c.key_length-key_len.result + 17 + vlen (c.key_length-key_len.result + 15) c.args.frame.now + 4 =
+    ends_length (c.key_length-key_len.result + 15) (c.key_length-key_len.result + 17) c.args.frame.now (omega arith) ends in
     omega (arith, long)
 
 pub returns-then-not-flag_holds : goal.returns-then-not-flag_holds
@@ -37,13 +40,15 @@ returns-then-not-flag_holds c =
 pub stamp_at-stamp-requires : goal.stamp_at-stamp-requires
 stamp_at-stamp-requires c =
     let ends : value_ends (c.key_length-key_len.result + 15) c.args.frame.now ≡ true = sym c.value_ends.ensures ∙ c.if-not-value_ends.false in
-    let long : length c.args.frame.now ≡ c.key_length-key_len.result + 17 + vlen (c.key_length-key_len.result + 15) c.args.frame.now + 4 = ends_length (c.key_length-key_len.result + 15) (c.key_length-key_len.result + 17) c.args.frame.now (omega arith) ends in
+    let long : length c.args.frame.now ≡ c.key_length-key_len.result + 17 + vlen (c.key_length-key_len.result + 15) c.args.frame.now + 4 =
+    ends_length (c.key_length-key_len.result + 15) (c.key_length-key_len.result + 17) c.args.frame.now (omega arith) ends in
     omega (arith, long)
 
 pub slice_bounds-judge-end : goal.slice_bounds-judge-end
 slice_bounds-judge-end c =
     let ends : value_ends (c.key_length-key_len.result + 15) c.args.frame.now ≡ true = sym c.value_ends.ensures ∙ c.if-not-value_ends.false in
-    let long : length c.args.frame.now ≡ c.key_length-key_len.result + 17 + vlen (c.key_length-key_len.result + 15) c.args.frame.now + 4 = ends_length (c.key_length-key_len.result + 15) (c.key_length-key_len.result + 17) c.args.frame.now (omega arith) ends in
+    let long : length c.args.frame.now ≡ c.key_length-key_len.result + 17 + vlen (c.key_length-key_len.result + 15) c.args.frame.now + 4 =
+    ends_length (c.key_length-key_len.result + 15) (c.key_length-key_len.result + 17) c.args.frame.now (omega arith) ends in
     omega (arith, long)
 
 pub returns : goal.returns

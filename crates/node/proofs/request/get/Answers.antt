@@ -11,23 +11,31 @@ use Rattle.node.proofs.request.get.Goals as goal
 
 pub overflow_add-end : goal.overflow_add-end
 overflow_add-end c =
-    let within : let a = c.args in c.in-Value.at + c.in-Value.len ≤ length a.store.now = (value_at_lem c.args.store.now c.requires.is_sound c.args.key.now _ _ _ c.lookup_unchecked-looked.ensures c.in-Value.is).0 in
+    let within : let a = c.args in c.in-Value.at + c.in-Value.len ≤ length a.store.now =
+    (value_at_lem c.args.store.now c.requires.is_sound c.args.key.now _ _ _ c.lookup_unchecked-looked.ensures c.in-Value.is).0 in
     omega (arith, within)
 
 pub slice_bounds-give_value-end : goal.slice_bounds-give_value-end
 slice_bounds-give_value-end c =
-    let within : let a = c.args in c.in-Value.at + c.in-Value.len ≤ length a.store.now = (value_at_lem c.args.store.now c.requires.is_sound c.args.key.now _ _ _ c.lookup_unchecked-looked.ensures c.in-Value.is).0 in
+    let within : let a = c.args in c.in-Value.at + c.in-Value.len ≤ length a.store.now =
+    (value_at_lem c.args.store.now c.requires.is_sound c.args.key.now _ _ _ c.lookup_unchecked-looked.ensures c.in-Value.is).0 in
     within
 
 pub give_value-requires : goal.give_value-requires
 give_value-requires c =
-    let value_is : let a = c.args in take (c.in-Value.at + c.in-Value.len - c.in-Value.at) (drop c.in-Value.at a.store.now) ≡ value_part a.store.now a.key.now = let s = c.args.store.now in field_between c.in-Value.at c.in-Value.len _ s refl ∙ (value_at_lem s c.requires.is_sound c.args.key.now _ _ _ c.lookup_unchecked-looked.ensures c.in-Value.is).1 in
+    let value_is : let a = c.args in take (c.in-Value.at + c.in-Value.len - c.in-Value.at) (drop c.in-Value.at a.store.now)
+    ≡ value_part a.store.now a.key.now = let s =
+    c.args.store.now in field_between c.in-Value.at c.in-Value.len _ s refl
+    ∙ (value_at_lem s c.requires.is_sound c.args.key.now _ _ _ c.lookup_unchecked-looked.ensures c.in-Value.is).1 in
     (c.requires.room, rw value_is (value_fits c.args.store.now c.requires.is_sound c.args.key.now))
 
 pub returns-in-Value : goal.returns-in-Value
 unfolding gets
 returns-in-Value c =
-    let value_is : let a = c.args in take (c.in-Value.at + c.in-Value.len - c.in-Value.at) (drop c.in-Value.at a.store.now) ≡ value_part a.store.now a.key.now = let s = c.args.store.now in field_between c.in-Value.at c.in-Value.len _ s refl ∙ (value_at_lem s c.requires.is_sound c.args.key.now _ _ _ c.lookup_unchecked-looked.ensures c.in-Value.is).1 in
+    let value_is : let a = c.args in take (c.in-Value.at + c.in-Value.len - c.in-Value.at) (drop c.in-Value.at a.store.now)
+    ≡ value_part a.store.now a.key.now = let s =
+    c.args.store.now in field_between c.in-Value.at c.in-Value.len _ s refl
+    ∙ (value_at_lem s c.requires.is_sound c.args.key.now _ _ _ c.lookup_unchecked-looked.ensures c.in-Value.is).1 in
     let a = c.args in
     settled_as _ _ _ _ _ _ _ _
     (looked_as a.store.now c.requires.is_sound a.key.now a.clock _ _ c.lookup_unchecked-looked.ensures c.in-Value.is)

@@ -11,19 +11,22 @@ use Rattle.peers.proofs.PeerTable.reported.Goals as goal
 
 pub offset_bounds-self-at : goal.offset_bounds-self-at
 offset_bounds-self-at c =
-    let accepted : let a = c.args in 0 ≡ reported_answer a.id a.state a.incarnation a.now a.self = sym (ap answer_number c.in-Done.is) ∙ c.judge-answer.ensures in
+    let accepted : let a = c.args in 0 ≡ reported_answer a.id a.state a.incarnation a.now a.self =
+    sym (ap answer_number c.in-Done.is) ∙ c.judge-answer.ensures in
     let below-ten : c.index_from-at.result < 10 = let a = c.args in omega (arith, peer_in_array a.id a.state a.incarnation a.now a.self accepted) in
     omega (arith, below-ten)
 
 pub bounds-self-at : goal.bounds-self-at
 bounds-self-at c =
-    let accepted : let a = c.args in 0 ≡ reported_answer a.id a.state a.incarnation a.now a.self = sym (ap answer_number c.in-Done.is) ∙ c.judge-answer.ensures in
+    let accepted : let a = c.args in 0 ≡ reported_answer a.id a.state a.incarnation a.now a.self =
+    sym (ap answer_number c.in-Done.is) ∙ c.judge-answer.ensures in
     let below-ten : c.index_from-at.result < 10 = let a = c.args in omega (arith, peer_in_array a.id a.state a.incarnation a.now a.self accepted) in
     below-ten
 
 pub with_row-requires : goal.with_row-requires
 with_row-requires c =
-    let accepted : let a = c.args in 0 ≡ reported_answer a.id a.state a.incarnation a.now a.self = sym (ap answer_number c.in-Done.is) ∙ c.judge-answer.ensures in
+    let accepted : let a = c.args in 0 ≡ reported_answer a.id a.state a.incarnation a.now a.self =
+    sym (ap answer_number c.in-Done.is) ∙ c.judge-answer.ensures in
     let below-ten : c.index_from-at.result < 10 = let a = c.args in omega (arith, peer_in_array a.id a.state a.incarnation a.now a.self accepted) in
     below-ten
 
@@ -38,7 +41,8 @@ returns-in-Refused c =
 pub returns-in-Done : goal.returns-in-Done
 unfolding after_reported
 returns-in-Done c =
-    let accepted : let a = c.args in 0 ≡ reported_answer a.id a.state a.incarnation a.now a.self = sym (ap answer_number c.in-Done.is) ∙ c.judge-answer.ensures in
+    let accepted : let a = c.args in 0 ≡ reported_answer a.id a.state a.incarnation a.now a.self =
+    sym (ap answer_number c.in-Done.is) ∙ c.judge-answer.ensures in
     let a = c.args in
     row_gives c.done.result a.self c.with_row.result c.reported.result a.id c.index_from-at.result
     (reported_answer a.id a.state a.incarnation a.now a.self) (reported_row a.state a.incarnation a.now)

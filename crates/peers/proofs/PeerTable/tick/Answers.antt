@@ -16,7 +16,8 @@ pub returns-then-not-is_sound : goal.returns-then-not-is_sound
 unfolding after_tick
 returns-then-not-is_sound c =
     let a = c.args in
-    refused_gives c.refused-then-not-is_sound.result a.self (with_rows (on_others (tick_row a.now)) a.self) 17 (tick_answer a.now a.self) c.refused-then-not-is_sound.ensures
+    refused_gives c.refused-then-not-is_sound.result a.self (with_rows (on_others (tick_row a.now)) a.self) 17
+    (tick_answer a.now a.self) c.refused-then-not-is_sound.ensures
     refl
     (tick_17 a.now a.self c.if-now-ge-TIME_LIMIT.false (sym c.is_sound.ensures ∙ c.if-not-is_sound.true))
 

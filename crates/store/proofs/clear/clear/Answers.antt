@@ -24,13 +24,15 @@ overflow_add-count c =
 
 pub loop-i-preserved-then-is_cleared : goal.loop-i-preserved-then-is_cleared
 loop-i-preserved-then-is_cleared c =
-    let judged : c.is_cleared.result ≡ cleared c.args.line (slot_entry (slot_at (c.loop-i.i - 1) c.loop-i.store)) = let line = c.args.line in c.is_cleared.ensures ∙ ap (λ (t : List ℕ). cleared line (slot_entry t)) c.slot.ensures in
+    let judged : c.is_cleared.result ≡ cleared c.args.line (slot_entry (slot_at (c.loop-i.i - 1) c.loop-i.store)) = let line =
+    c.args.line in c.is_cleared.ensures ∙ ap (λ (t : List ℕ). cleared line (slot_entry t)) c.slot.ensures in
     clear_gone c.loop-i.invariant c.requires c.loop-i-test.true (sym judged ∙ c.if-is_cleared.true)
     _ c.close_slot.ensures c.close_slot.auto.store
 
 pub loop-i-preserved : goal.loop-i-preserved
 loop-i-preserved c =
-    let judged : c.is_cleared.result ≡ cleared c.args.line (slot_entry (slot_at (c.loop-i.i - 1) c.loop-i.store)) = let line = c.args.line in c.is_cleared.ensures ∙ ap (λ (t : List ℕ). cleared line (slot_entry t)) c.slot.ensures in
+    let judged : c.is_cleared.result ≡ cleared c.args.line (slot_entry (slot_at (c.loop-i.i - 1) c.loop-i.store)) = let line =
+    c.args.line in c.is_cleared.ensures ∙ ap (λ (t : List ℕ). cleared line (slot_entry t)) c.slot.ensures in
     clear_stays c.loop-i.invariant c.requires c.loop-i-test.true (sym judged ∙ c.if-is_cleared.false)
 
 pub shape_of-store : goal.shape_of-store
