@@ -96,6 +96,7 @@ pub fn cut_unchecked(list: &[u8]) -> Cut
 }
 
 // How many deliveries a list has; 17 if it is not readable.
+#[tactic(auto, using(crate::proofs::Runs::turn_full))]
 pub fn count(list: &[u8]) -> Counted
     ensures { count_of result ≡ count_answer list.now }
 {

@@ -1,39 +1,32 @@
 use native.Mathlib.Omega.{arith}
-use Rattle.deliveries.proofs.Runs.{count_start, turn_end, turn_full, turn_nothing, Turned, turn_next}
+use Rattle.deliveries.proofs.Runs.{count_start, turn_end, turn_nothing, Turned, turn_next}
 use Rattle.deliveries.proofs.count.Goals as goal
 
 pub loop-at-init : goal.loop-at-init
 loop-at-init c = (count_start c.args.list.now, omega arith, omega arith)
 
-pub returns-then-n-eq-MAX_DELIVERIES : goal.returns-then-n-eq-MAX_DELIVERIES
-returns-then-n-eq-MAX_DELIVERIES c =
-    turn_full c.args.list.now c.loop-at.at c.loop-at.n c.loop-at.invariant.0 c.loop-at-test.true c.if-n-eq-MAX_DELIVERIES.true
-
 pub returns-in_default : goal.returns-in_default
 returns-in_default c =
     turn_nothing c.args.list.now c.loop-at.at c.loop-at.n c.loop-at.invariant.0 c.loop-at-test.true
-    (omega (arith, c.loop-at.invariant.1, c.if-n-eq-MAX_DELIVERIES.false)) _ c.cut_delivery-front.ensures c.in_default.is
+    (omega arith) _ c.cut_delivery-front.ensures c.in_default.is
 
 pub overflow_add-at : goal.overflow_add-at
 overflow_add-at c =
     let next : Turned c.args.list.now c.loop-at.at c.loop-at.n c.in-Delivery.end =
-    turn_next c.args.list.now c.loop-at.at c.loop-at.n c.loop-at.invariant.0 c.loop-at-test.true (omega
-    (arith, c.loop-at.invariant.1, c.if-n-eq-MAX_DELIVERIES.false)) _ c.cut_delivery-front.ensures _ _ _ _ _ _ _ c.in-Delivery.is in
+    turn_next c.args.list.now c.loop-at.at c.loop-at.n c.loop-at.invariant.0 c.loop-at-test.true (omega arith) _ c.cut_delivery-front.ensures _ _ _ _ _ _ _ c.in-Delivery.is in
     omega (arith, next.within)
 
 pub loop-at-smaller : goal.loop-at-smaller
 loop-at-smaller c =
     let next : Turned c.args.list.now c.loop-at.at c.loop-at.n c.in-Delivery.end =
-    turn_next c.args.list.now c.loop-at.at c.loop-at.n c.loop-at.invariant.0 c.loop-at-test.true (omega
-    (arith, c.loop-at.invariant.1, c.if-n-eq-MAX_DELIVERIES.false)) _ c.cut_delivery-front.ensures _ _ _ _ _ _ _ c.in-Delivery.is in
+    turn_next c.args.list.now c.loop-at.at c.loop-at.n c.loop-at.invariant.0 c.loop-at-test.true (omega arith) _ c.cut_delivery-front.ensures _ _ _ _ _ _ _ c.in-Delivery.is in
     omega (arith, next.some_bytes, next.within)
 
 pub loop-at-preserved : goal.loop-at-preserved
 loop-at-preserved c =
     let next : Turned c.args.list.now c.loop-at.at c.loop-at.n c.in-Delivery.end =
-    turn_next c.args.list.now c.loop-at.at c.loop-at.n c.loop-at.invariant.0 c.loop-at-test.true (omega
-    (arith, c.loop-at.invariant.1, c.if-n-eq-MAX_DELIVERIES.false)) _ c.cut_delivery-front.ensures _ _ _ _ _ _ _ c.in-Delivery.is in
-    (next.counts, omega (arith, c.loop-at.invariant.1, c.if-n-eq-MAX_DELIVERIES.false), next.within)
+    turn_next c.args.list.now c.loop-at.at c.loop-at.n c.loop-at.invariant.0 c.loop-at-test.true (omega arith) _ c.cut_delivery-front.ensures _ _ _ _ _ _ _ c.in-Delivery.is in
+    (next.counts, omega arith, next.within)
 
 pub returns : goal.returns
 returns c =
