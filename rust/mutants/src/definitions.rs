@@ -95,14 +95,14 @@ impl Maker<'_> {
         });
     }
 
-    /// A name of a module in the place of another; the operator `||` has the name `_||_`.
-    fn exchange(&mut self, at: Range<usize>, module: &str, name: &str) {
-        self.replace(at, name.trim_matches('_').to_string());
+    /// A name of the prelude in the place of another; the operator `||` has the name `◌||◌`.
+    fn exchange(&mut self, at: Range<usize>, name: &str) {
+        self.replace(at, name.trim_matches('◌').to_string());
         let mut brought = self.text.lines().filter(|line| line.starts_with("use "));
         let is_named = |line: &str| line.split(['{', ',', '}']).any(|word| word.trim() == name);
         if !brought.any(is_named) {
             let last = self.found.last_mut().expect("the change just made");
-            last.brings = Some(format!("use {module}.{{{name}}}\n"));
+            last.brings = Some(format!("use Rattle.std.specs.Prelude.{{{name}}}\n"));
         }
     }
 
@@ -112,10 +112,10 @@ impl Maker<'_> {
         for (i, atom) in atoms.iter().enumerate() {
             let range = atom.at..atom.end;
             match &text[range.clone()] {
-                "ltb" => self.exchange(range, "lib.Dec", "leb"),
-                "leb" => self.exchange(range, "lib.Dec", "ltb"),
-                "&&" => self.exchange(range, "mathlib.Core.Bool", "_||_"),
-                "||" => self.exchange(range, "mathlib.Core.Bool", "_&&_"),
+                "ltb" => self.exchange(range, "leb"),
+                "leb" => self.exchange(range, "ltb"),
+                "&&" => self.exchange(range, "◌||◌"),
+                "||" => self.exchange(range, "◌&&◌"),
                 "cond" => self.swapped_checks(&atoms, i),
                 word => self.number(range, word),
             }

@@ -1,12 +1,13 @@
 //! Mutation testing of the proved crates. A mutant is a small change of the code, or of a definition that a
 //! contract cites; the prover must refuse it. One that it proves is the same program, or shows a promise that is
-//! not made. The same machinery tries the hand-written wrong answers below `crates/*/must-fail/quick/`.
+//! not made. The same machinery tries the hand-written wrong answers below `crates/*/must-fail/`.
 
 pub mod antt;
 pub mod change;
 pub mod code;
 pub mod definitions;
 pub mod edit;
+pub mod fit;
 pub mod group;
 pub mod items;
 pub mod known;

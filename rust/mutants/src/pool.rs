@@ -2,10 +2,11 @@
 
 use crate::log::Log;
 use crate::repository::Repository;
-use crate::workplace::Workplace;
+use crate::workplace::{keep_base, Workplace};
 use std::collections::VecDeque;
+use std::fs;
 use std::io;
-use std::path::PathBuf;
+use std::path::{Path, PathBuf};
 use std::process::Command;
 use std::sync::Mutex;
 
@@ -16,48 +17,40 @@ pub struct Job {
     pub changed: Vec<(String, String)>,
 }
 
+/// The workplaces lie outside the repository, since rt refuses a source of Rattle that stands in none of its crates.
 #[derive(Debug)]
 pub struct Pool {
     workplaces: Vec<Workplace>,
+    below: PathBuf,
+}
+
+impl Drop for Pool {
+    fn drop(&mut self) {
+        // What is left is found and removed by a later run.
+        let _ = fs::remove_dir_all(&self.below);
+    }
 }
 
 impl Pool {
-    /// Proves what the crates use, copies the repository once for each core, and checks each crate once.
+    /// Proves the crates, keeps what that left, and copies the repository once for each core.
     pub fn new(repository: &Repository, crates: &[String], cores: usize) -> Result<Pool, String> {
-        prove(repository, &repository.used_by(crates))?;
-        let below = repository.root.join("target/mutants");
-        let place = |k: usize| {
-            let (root, bases): (PathBuf, PathBuf) =
-                (below.join(format!("copy-{k}")), below.join("bases"));
-            Workplace::new(&repository.root, root, bases)
-        };
-        if below.exists() {
-            std::fs::remove_dir_all(&below).map_err(|e| format!("{}: {e}", below.display()))?;
-        }
-        let workplaces: io::Result<Vec<Workplace>> = (0..cores).map(place).collect();
+        prove(repository, crates, cores)?;
+        let at = |e: io::Error| format!("copy of the repository: {e}");
+        let below = own_folder(&std::env::temp_dir()).map_err(at)?;
         let mut pool = Pool {
-            workplaces: workplaces.map_err(|e| format!("copy of the repository: {e}"))?,
+            workplaces: Vec::new(),
+            below: below.clone(),
         };
-        // the largest first, so that no core waits long for another at the end
-        let mut order = crates.to_vec();
-        order.sort_by_key(|name| std::cmp::Reverse(repository.weight(name)));
-        pool.make_bases(&order)?;
-        Ok(pool)
-    }
-
-    fn make_bases(&mut self, crates: &[String]) -> Result<(), String> {
-        let logs = self.each(
-            crates.to_vec(),
-            |workplace, name| workplace.make_base(name),
-            |_, _| {},
-        );
-        for (name, log) in crates.iter().zip(logs) {
-            let log = log.map_err(|e| format!("{name}: {e}"))?;
-            if log.verdict != crate::log::Verdict::Proved {
-                return Err(format!("{name} is not proved as it stands"));
-            }
+        let bases = below.join("bases");
+        for name in crates {
+            keep_base(&repository.root, &bases, name).map_err(at)?;
         }
-        Ok(())
+        for k in 0..cores {
+            let root = below.join(format!("copy-{k}"));
+            let place = Workplace::new(&repository.root, root, bases.clone());
+            pool.workplaces.push(place.map_err(at)?);
+        }
+        Ok(pool)
     }
 
     /// Checks every job; `told` hears of each as it ends. The logs are in the order of the jobs.
@@ -107,19 +100,46 @@ impl Pool {
     }
 }
 
-fn prove(repository: &Repository, crates: &[String]) -> Result<(), String> {
-    if crates.is_empty() {
-        return Ok(());
+/// Proves the crates where they stand, over what was kept there, with the libraries below them.
+fn prove(repository: &Repository, crates: &[String], cores: usize) -> Result<(), String> {
+    if crates.len() == repository.crates.len() {
+        let jobs = cores.to_string();
+        return rt(&["all", "check", "--jobs", &jobs], &repository.root);
     }
+    let mut folders = crates.iter().map(|name| repository.folder(name));
+    folders.try_for_each(|folder| rt(&["check"], &folder))
+}
+
+fn rt(words: &[&str], folder: &Path) -> Result<(), String> {
+    let told = format!("rt {} in {}", words.join(" "), folder.display());
     let mut command = Command::new("rt");
-    command
-        .arg("check")
-        .args(crates)
-        .current_dir(&repository.root);
-    let proved = command.output().map_err(|e| format!("rt check: {e}"))?;
-    if proved.status.success() {
+    let ran = command.args(words).current_dir(folder).output();
+    let ran = ran.map_err(|e| format!("{told}: {e}"))?;
+    if ran.status.success() {
         return Ok(());
     }
-    let said = String::from_utf8_lossy(&proved.stdout);
-    Err(format!("not proved as it stands:\n{said}"))
+    let said = String::from_utf8_lossy(&ran.stdout) + String::from_utf8_lossy(&ran.stderr);
+    Err(format!("{told}: not proved as it stands:\n{said}"))
+}
+
+/// Makes a folder that no other run has, below `top`, in the place of one whose run is over.
+fn own_folder(top: &Path) -> io::Result<PathBuf> {
+    for n in 0.. {
+        let path = top.join(format!("snowpulley-mutants-{n}"));
+        let owner = path.join("process");
+        let is_over =
+            fs::read_to_string(&owner).is_ok_and(|id| !Path::new("/proc").join(id.trim()).exists());
+        if is_over {
+            fs::remove_dir_all(&path)?;
+        }
+        match fs::create_dir(&path) {
+            Ok(()) => {
+                fs::write(owner, std::process::id().to_string())?;
+                return Ok(path);
+            }
+            Err(e) if e.kind() == io::ErrorKind::AlreadyExists => {}
+            Err(e) => return Err(e),
+        }
+    }
+    unreachable!("there are folders without end")
 }

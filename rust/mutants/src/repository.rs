@@ -2,7 +2,6 @@
 
 use crate::edit::Files;
 use crate::items::Source;
-use std::collections::BTreeMap;
 use std::fs;
 use std::io;
 use std::path::{Path, PathBuf};
@@ -12,8 +11,6 @@ pub struct Repository {
     pub root: PathBuf,
     /// In the order of crates.txt.
     pub crates: Vec<String>,
-    /// What each crate uses, libraries of the kit among them.
-    uses: BTreeMap<String, Vec<String>>,
 }
 
 impl Repository {
@@ -23,25 +20,10 @@ impl Repository {
         let lines = list
             .lines()
             .map(|line| line.split('#').next().unwrap_or(""));
-        let (mut crates, mut uses) = (Vec::new(), BTreeMap::new());
-        for (name, used) in lines.filter_map(|line| line.split_once(':')) {
-            let used = used.split_whitespace().map(str::to_string);
-            crates.push(name.trim().to_string());
-            uses.insert(name.trim().to_string(), used.collect());
-        }
-        Ok(Repository { root, crates, uses })
-    }
-
-    /// The crates of the repository that some of these use.
-    pub fn used_by(&self, names: &[String]) -> Vec<String> {
-        let is_used = |other: &&String| names.iter().any(|name| self.uses[name].contains(other));
-        self.crates.iter().filter(is_used).cloned().collect()
-    }
-
-    /// How much there is to prove in a crate: the bytes of its proofs.
-    pub fn weight(&self, name: &str) -> usize {
-        let proofs = self.files(name, "proofs", "antt").unwrap_or_default();
-        proofs.iter().map(|(_, text)| text.len()).sum()
+        // behind a name its kind can stand, as in `capi staticlib: wire`
+        let names = lines.filter_map(|line| line.split_once(':')?.0.split_whitespace().next());
+        let crates = names.map(str::to_string).collect();
+        Ok(Repository { root, crates })
     }
 
     pub fn folder(&self, name: &str) -> PathBuf {

@@ -2,13 +2,15 @@
 
 use crate::antt::{add_laws, Laws};
 use crate::edit::{Edit, Files};
+use crate::fit;
 use crate::group::{bodies, grouped};
-use crate::log::Log;
+use crate::log::{Log, Verdict};
 use crate::options::Options;
 use crate::pool::{Job, Pool};
 use crate::progress::Progress;
 use crate::repository::Repository;
 use std::collections::BTreeSet;
+use std::rc::Rc;
 
 /// Edits of one crate that share a check, with what is asked of it.
 struct Group<'a> {
@@ -34,6 +36,7 @@ impl Group<'_> {
 struct Crate {
     name: String,
     files: Files,
+    proofs: Files,
     laws: Laws,
     edits: Vec<Edit>,
 }
@@ -42,13 +45,15 @@ impl Crate {
     fn read(repository: &Repository, name: &str) -> Result<Crate, String> {
         let failed = |e: std::io::Error| format!("{name}: {e}");
         let mut laws = Laws::new();
-        for (_, text) in repository.files(name, "proofs", "antt").map_err(failed)? {
-            add_laws(&mut laws, &text);
+        let proofs = repository.files(name, "proofs", "antt").map_err(failed)?;
+        for (_, text) in &proofs {
+            add_laws(&mut laws, text);
         }
         let files = repository.sources_and_definitions(name).map_err(failed)?;
         Ok(Crate {
             name: name.to_string(),
             files,
+            proofs: proofs.into_iter().collect(),
             laws,
             edits: edits_of(repository, name)?,
         })
@@ -118,8 +123,23 @@ pub fn run(options: &Options) -> Result<bool, String> {
         .filter(|one| groups.iter().any(|g| g.of.name == one.name));
     let used: Vec<String> = used.map(|one| one.name.clone()).collect();
     let mut pool = Pool::new(&repository, &used, options.jobs)?;
-    let (mut failures, alone) = try_edits(&mut pool, groups)?;
-    failures += try_edits(&mut pool, alone)?.0 + stale;
+    let (together, single): (Vec<_>, Vec<_>) = try_groups(&mut pool, groups)?
+        .into_iter()
+        .partition(|one| one.is_shared);
+    let mut open = single;
+    open.extend(try_edits(&mut pool, together)?);
+    for _ in 0..fit::ROUNDS {
+        let mut unfit = Vec::new();
+        for mut one in std::mem::take(&mut open) {
+            let list = if one.fit() { &mut unfit } else { &mut open };
+            list.push(one);
+        }
+        open.extend(try_edits(&mut pool, unfit)?);
+    }
+    for one in &open {
+        println!("NOT AS EXPECTED  {}", complaint(&one.edit, &one.log));
+    }
+    let failures = open.len() + stale;
     println!(
         "wrong answers: {} refused, {failures} not",
         count - failures
@@ -127,51 +147,108 @@ pub fn run(options: &Options) -> Result<bool, String> {
     Ok(good && failures == 0)
 }
 
-/// Tries each group as one check: how many edits failed alone, and those of a group that it did not settle.
-fn try_edits<'a>(
-    pool: &mut Pool,
-    groups: Vec<Group<'a>>,
-) -> Result<(usize, Vec<Group<'a>>), String> {
+/// An edit that is not met so far, and what its check said.
+struct Open<'a> {
+    edit: Edit,
+    of: &'a Crate,
+    log: Rc<Log>,
+    /// Whether others were tried in the same check.
+    is_shared: bool,
+    /// The proof files of the function that it names, where they were made to fit.
+    proofs: Files,
+}
+
+impl Open<'_> {
+    /// Makes the function's proof files fit the edit. Whether they changed.
+    fn fit(&mut self) -> bool {
+        let function = &self.edit.expect;
+        if self.log.verdict_on(function) != Some(Verdict::Unfit) {
+            return false;
+        }
+        if self.proofs.is_empty() {
+            let folder = self.log.proofs_of(function).unwrap_or_default();
+            let own = |file: &&String| file.rsplit_once('/').is_some_and(|f| f.0 == folder);
+            let files = self.of.proofs.iter().filter(|(file, _)| own(file));
+            self.proofs = files.map(|(f, t)| (f.clone(), t.clone())).collect();
+        }
+        match fit::fitted(&self.log, function, &self.proofs) {
+            Some(proofs) => self.proofs = proofs,
+            None => return false,
+        }
+        true
+    }
+
+    /// The check of this edit alone.
+    fn job(&self) -> Job {
+        let mut files = self.of.files.clone();
+        let mut changed = match self.edit.apply(&mut files) {
+            Ok(()) => changed(files, self.of),
+            Err(_) => Vec::new(),
+        };
+        changed.extend(self.proofs.clone());
+        Job {
+            name: self.of.name.clone(),
+            changed,
+        }
+    }
+}
+
+/// The files that are other than those of a crate.
+fn changed(mut files: Files, of: &Crate) -> Vec<(String, String)> {
+    files.retain(|file, text| of.files[file] != *text);
+    files.into_iter().collect()
+}
+
+/// Tries each group as one check, and hands back the edits that are not met.
+fn try_groups<'a>(pool: &mut Pool, groups: Vec<Group<'a>>) -> Result<Vec<Open<'a>>, String> {
     let mut jobs = Vec::new();
     for group in &groups {
-        let mut changed = group.of.files.clone();
+        let mut files = group.of.files.clone();
         for edit in &group.edits {
             // where two edits of a group do not fit together, the second is tried alone later
-            let mut more = changed.clone();
+            let mut more = files.clone();
             if edit.apply(&mut more).is_ok() {
-                changed = more;
+                files = more;
             }
         }
-        changed.retain(|file, text| group.of.files[file] != *text);
         jobs.push(Job {
             name: group.of.name.clone(),
-            changed: changed.into_iter().collect(),
+            changed: changed(files, group.of),
         });
     }
     let progress = Progress::new(jobs.len());
     let logs = pool.check(jobs, |_, _| progress.step(None));
-    let (mut failures, mut left) = (0, Vec::new());
+    let mut open = Vec::new();
     for (group, log) in groups.into_iter().zip(logs) {
-        let log = log.map_err(|e| format!("{}: {e}", group.of.name))?;
-        let shared = group.edits.len() > 1;
+        let log = Rc::new(log.map_err(|e| format!("{}: {e}", group.of.name))?);
+        let is_shared = group.edits.len() > 1;
         let applies = |edit: &Edit| edit.apply(&mut group.of.files.clone()).is_ok();
-        for edit in group
-            .edits
-            .into_iter()
-            .filter(|edit| applies(edit) && !edit.is_met(&log, &group.of.laws))
-        {
-            if shared {
-                left.push(Group {
-                    edits: vec![edit],
-                    of: group.of,
-                });
-            } else {
-                println!("NOT AS EXPECTED  {}", complaint(&edit, &log));
-                failures += 1;
-            }
+        let edits = group.edits.into_iter().filter(applies);
+        let left = edits.filter(|edit| !edit.is_met(&log, &group.of.laws));
+        open.extend(left.map(|edit| Open {
+            edit,
+            of: group.of,
+            log: Rc::clone(&log),
+            is_shared,
+            proofs: Files::new(),
+        }));
+    }
+    Ok(open)
+}
+
+/// Tries each edit alone, and hands back those that are not met.
+fn try_edits<'a>(pool: &mut Pool, edits: Vec<Open<'a>>) -> Result<Vec<Open<'a>>, String> {
+    let jobs: Vec<Job> = edits.iter().map(Open::job).collect();
+    let logs = pool.check(jobs, |_, _| {});
+    let mut open = Vec::new();
+    for (mut one, log) in edits.into_iter().zip(logs) {
+        one.log = Rc::new(log.map_err(|e| format!("{}: {e}", one.of.name))?);
+        one.is_shared = false;
+        if !one.edit.is_met(&one.log, &one.of.laws) {
+            open.push(one);
         }
     }
-    Ok((failures, left))
+    Ok(open)
 }
 
 fn complaint(edit: &Edit, log: &Log) -> String {
@@ -187,12 +264,17 @@ fn complaint(edit: &Edit, log: &Log) -> String {
     )
 }
 
+/// The edits that say what must fall: all below quick/, and others that have such a line.
 fn edits_of(repository: &Repository, name: &str) -> Result<Vec<Edit>, String> {
     let files = repository
-        .files(name, "must-fail/quick", "edit")
+        .files(name, "must-fail", "edit")
         .map_err(|e| format!("{name}: {e}"))?;
     let mut found = Vec::new();
     for (file, text) in files {
+        let says = |line: &str| line.starts_with("expect:") || line.starts_with("# expect:");
+        if !file.contains("/quick/") && !text.lines().any(says) {
+            continue;
+        }
         let label = file
             .rsplit('/')
             .next()

@@ -25,8 +25,8 @@ pub struct Pair {
 
 impl Pair {
     pub fn is_low(self, a: &[u8], b: &[u8]) -> bool
-        requires { ⌜ length (now a) < 9 ⌝ }
-        ensures told { λ r. ⌜ r ≡ tested 3 (now (a .entry)) ⌝ }
+        requires { length a.now < 9 }
+        ensures told { result ≡ tested 3 a.old }
     {
         if !same(a, b) {
             return self.low < 1;
@@ -122,13 +122,13 @@ fn functions_are_found_with_their_owner() {
 
 const DEFINITIONS: &str = "\
 -- a number 5 in a comment
-use lib.Dec.{ltb, leb}
+use Rattle.std.specs.Prelude.{ℕ, List, Bool, ◌&&◌, cond, ltb, leb, eqb}
 
 unfoldable pub tested : ℕ → List ℕ → Bool
-tested n s = ltb n 4 && isShort s && leb 1 n
+tested n s = ltb n 4 && is_short s && leb 1 n
 
-unfoldable pub isShort : List ℕ → Bool
-isShort s =
+unfoldable pub is_short : List ℕ → Bool
+is_short s =
     cond (eqb (length s) 0) true
     (cond (ltb 9 (length s)) false
     other)
@@ -150,17 +150,17 @@ fn definitions_that_contracts_cite_are_changed() {
     let changes = definitions::mutants(&files, &cited);
     let lines: BTreeSet<String> = changed_lines(&changes, DEFINITIONS).into_iter().collect();
     let expected = [
-        "tested n s = leb n 4 && isShort s && leb 1 n",
-        "tested n s = ltb n 5 && isShort s && leb 1 n",
-        "tested n s = ltb n 3 && isShort s && leb 1 n",
-        "tested n s = ltb n 4 || isShort s && leb 1 n",
-        "tested n s = ltb n 4 && isShort s || leb 1 n",
-        "tested n s = ltb n 4 && isShort s && ltb 1 n",
-        "tested n s = ltb n 4 && isShort s && leb 2 n",
-        "tested n s = ltb n 4 && isShort s && leb 0 n",
-        "tested n s = isShort s && leb 1 n",
+        "tested n s = leb n 4 && is_short s && leb 1 n",
+        "tested n s = ltb n 5 && is_short s && leb 1 n",
+        "tested n s = ltb n 3 && is_short s && leb 1 n",
+        "tested n s = ltb n 4 || is_short s && leb 1 n",
+        "tested n s = ltb n 4 && is_short s || leb 1 n",
+        "tested n s = ltb n 4 && is_short s && ltb 1 n",
+        "tested n s = ltb n 4 && is_short s && leb 2 n",
+        "tested n s = ltb n 4 && is_short s && leb 0 n",
+        "tested n s = is_short s && leb 1 n",
         "tested n s = ltb n 4 && leb 1 n",
-        "tested n s = ltb n 4 && isShort s",
+        "tested n s = ltb n 4 && is_short s",
         "cond (eqb (length s) 1) true",
         "(cond (leb 9 (length s)) false",
         "(cond (ltb 10 (length s)) false",
@@ -181,7 +181,10 @@ fn a_definition_gets_the_name_it_lacks() {
         text.lines().next().map(str::to_string)
     };
     assert_eq!(first("leb").as_deref(), Some("-- a number 5 in a comment"));
-    assert_eq!(first("||").as_deref(), Some("use mathlib.Core.Bool.{_||_}"));
+    assert_eq!(
+        first("||").as_deref(),
+        Some("use Rattle.std.specs.Prelude.{◌||◌}")
+    );
 }
 
 #[test]
