@@ -1,4 +1,4 @@
-# `make run` shows the store at work. `make test` is the whole gate; it closes with rt's line 'N passed, 0 failed'.
+# `make run` shows the store at work. `make test` is the whole gate; it closes with rt ci's line 'N passed, 0 failed'.
 SHELL = /bin/bash
 CARGO = cargo
 TOOLS = rust/target/release
@@ -6,12 +6,16 @@ SAMPLE = target/sample
 LIBRARY = target/libsnowpulley.a
 # The crates with functions for C: an archive of each, all in one library.
 PARTS = capi capi_cluster capi_audit
+# The crates of crates.txt: behind a name its kind can stand, as in `capi staticlib: wire`.
+CRATES = $$(sed -n 's/^\([a-z0-9_]*\)[^:\#]*:.*/\1/p' crates.txt)
+# How many crates are proved, or wrong answers tried, side by side.
+JOBS = $(shell nproc)
 # The Rust crates with tests that link the proved library.
 LINKED = -p snowpulley-sys -p snowpulley -p snowpulley-cli -p snowpulley-differential -p snowpulley-bench
-.PHONY: run replay test proved lint reference tools tool expected tails replayed library differential compared fuzz bench performance sizes mutants wrong-answers fmt
+.PHONY: run replay test gate proved lint reference tools tool expected tails replayed library differential compared fuzz bench performance sizes mutants wrong-answers fmt
 
-# $(call told,LOG,COMMAND): runs rt, and tells each crate when it is proved. The whole output is in the log.
-told = mkdir -p $(SAMPLE); set -o pipefail; $(2) 2>&1 | tee $(SAMPLE)/$(1) | sed -un 's/^rt: /  /p' || { cat $(SAMPLE)/$(1); exit 1; }
+# $(call told,LOG,COMMAND): runs rt, and tells how far it is. The whole output is in the log.
+told = mkdir -p $(SAMPLE); set -o pipefail; { $(2); } 2>&1 | tee $(SAMPLE)/$(1) | sed -un -e 's/^rt: /  /p' -e 's/^== /  /p' || { cat $(SAMPLE)/$(1); exit 1; }
 
 # What went wrong on the site, on the proved library.
 run: tool
@@ -24,13 +28,20 @@ replay: tool tools target/bin/replay
 	@$(TOOLS)/snowpulley replay $(SAMPLE)/journal --replies $(SAMPLE)/replies
 	@cmp $(SAMPLE)/expected $(SAMPLE)/program && cmp $(SAMPLE)/expected $(SAMPLE)/replies
 
+# What `rt ci` proves it keeps for itself, so it comes last, and what the steps before it need is proved first.
 test:
+	@$(MAKE) --no-print-directory lint reference
 	@$(MAKE) --no-print-directory proved
-	@$(MAKE) --no-print-directory -j2 reference library
-	@$(MAKE) --no-print-directory lint expected tails replayed compared
+	@$(MAKE) --no-print-directory expected tails replayed library compared
 	@$(MAKE) --no-print-directory wrong-answers ONCE=--once
-	@rt fmt --check
-	@rt ci
+	@$(MAKE) --no-print-directory gate
+
+# The merge gate of rt: every proof, the edits of must-fail/, the tests and the programs. Nor may an edit be one that rt cannot try.
+gate:
+	@mkdir -p $(SAMPLE); set -o pipefail; rt ci | tee $(SAMPLE)/ci.log
+	@if ! grep -q '^rt: ok;' $(SAMPLE)/ci.log || grep -qE '^rt: ok;.*[ ,][1-9][0-9]* bad' $(SAMPLE)/ci.log; then \
+	    grep -E 'BAD EDIT' $(SAMPLE)/ci.log; echo 'rt ci has bad must-fail edits'; exit 1; \
+	fi
 
 # The Rust side's layout and lints.
 lint:
@@ -49,15 +60,17 @@ tools:
 tool: library
 	@cd rust && $(CARGO) build --release --offline --quiet -p snowpulley-cli
 
-# The replay program, and what the library for C and Rust is made of.
+# Every crate, over what earlier checks here kept.
 proved:
-	@echo "Proving the replay program and what the library is made of, some minutes from nothing:"
-	@$(call told,proved.log,rt check replay ring)
+	@echo "Proving the crates, some minutes from nothing:"
+	@$(call told,proved.log,rt all check --jobs $(JOBS))
 
-# The proved replay program.
+# The proved replay program: rt run builds it where something has changed, and runs it on an empty journal.
 .PHONY: target/bin/replay
 target/bin/replay: tools
-	@$(call told,check.log,rt check replay)
+	@mkdir -p target/bin
+	@$(call told,replay.log,cd crates/replay && rt run </dev/null)
+	@install -m 755 crates/replay/out/replay $@
 
 # Journals that are empty, end inside a record or have a LEN out of range.
 TAILS = empty clean time no-frame len no-body body checksum len-5 len-599 len-65535
@@ -75,10 +88,11 @@ replayed: target/bin/replay
 
 # The proved library for C and Rust, made again where something that it may depend on has changed.
 library: $(LIBRARY)
-$(LIBRARY): crates.txt $(shell find crates -name '*.rt' -o -name '*.antt')
+$(LIBRARY): crates.txt $(shell find crates -name out -prune -o \( -name '*.rt' -o -name '*.antt' \) -print)
 	@echo "Proving the library, some minutes from nothing and one for its last crates, $(PARTS):"
-	@$(call told,library.log,for part in $(PARTS); do rt staticlib $$part || exit 1; done)
-	@printf '%s\n' 'create $@' $(PARTS:%='addlib target/staticlib/lib%.a') save end | ar -M
+	@$(call told,library.log,for part in $(PARTS); do (cd crates/$$part && rt lib) || exit 1; done)
+	@mkdir -p target && rm -f $@
+	@printf '%s\n' 'create $@' $(foreach part,$(PARTS),'addlib crates/$(part)/out/lib$(part).a') save end | ar -M
 
 # The C example, the wrapper, the tool, and every family of calls against the second program, with fixed seeds.
 differential: library
@@ -106,23 +120,23 @@ performance: library target/bin/replay
 
 # The lines of each crate and its wrong answers, as the rows of a table in docs/PERFORMANCE.md.
 count = $$(find crates/$$c/$(1) 2>/dev/null $(2) -exec cat {} + | wc -l)
-files = $$(find crates/$$c/$(1) -maxdepth 1 -name '*.edit' 2>/dev/null | wc -l)
+files = $$(find crates/$$c/$(1) -name '*.edit' $(2) 2>/dev/null | wc -l)
 sizes:
-	@for c in $$(sed 's/:.*//' crates.txt); do \
+	@for c in $(CRATES); do \
 	    echo "| \`$$c\` | $(call count,src,-name '*.rt' ! -name entries.rt) | $(call count,specs,-name '*.antt') |" \
-	        "$(call count,proofs,-name '*.antt') | $(call files,must-fail) | $(call files,must-fail/quick) |"; \
+	        "$(call count,proofs,-name '*.antt') | $(call files,must-fail,! -path '*/quick/*') | $(call files,must-fail,-path '*/quick/*') |"; \
 	done
 
 # Mutants of the code, and of the definitions that contracts cite: make mutants CRATE=store N=60 SEED=7 (no CRATE: every crate)
 CRATE =
 N = 150
 mutants:
-	cd rust && $(CARGO) run --release --offline --quiet -p snowpulley-mutants -- run $(addprefix --crate ,$(CRATE)) --code $(N) --seed $(SEED) ..
+	cd rust && $(CARGO) run --release --offline --quiet -p snowpulley-mutants -- run $(addprefix --crate ,$(CRATE)) --code $(N) --seed $(SEED) --jobs $(JOBS) ..
 
-# Each wrong answer below crates/*/must-fail/quick: make wrong-answers CRATE=store (no CRATE: every crate; ONCE=--once: one for each name)
+# Each wrong answer that says what must fall: make wrong-answers CRATE=store (no CRATE: every crate; ONCE=--once: one for each name)
 ONCE =
 wrong-answers:
-	cd rust && $(CARGO) run --release --offline --quiet -p snowpulley-mutants -- edits $(addprefix --crate ,$(CRATE)) $(ONCE) ..
+	cd rust && $(CARGO) run --release --offline --quiet -p snowpulley-mutants -- edits $(addprefix --crate ,$(CRATE)) $(ONCE) --jobs $(JOBS) ..
 
 # What the proved programs are held to is what the second program writes.
 expected: tools
@@ -134,5 +148,5 @@ expected: tools
 	cmp $(SAMPLE)/points crates/points/stdout
 
 fmt:
-	rt fmt
+	@for c in $(CRATES); do (cd crates/$$c && rt fmt) || exit 1; done
 	cd rust && $(CARGO) fmt

@@ -38,8 +38,12 @@ fn assert_none(faults: Vec<String>) {
 /// The crates of the repository, and those of them that each uses.
 type Uses = BTreeMap<String, BTreeSet<String>>;
 
+/// Behind a name its kind can stand, as in `capi staticlib: wire`.
 fn uses(list: &str) -> Uses {
-    let lines: Vec<(&str, &str)> = list.lines().filter_map(|l| l.split_once(':')).collect();
+    let plain = list.lines().filter_map(|line| line.split('#').next());
+    let lines = plain.filter_map(|line| line.split_once(':'));
+    let lines = lines.filter_map(|(name, used)| Some((name.split(' ').next()?, used)));
+    let lines: Vec<(&str, &str)> = lines.collect();
     let known = |name: &&str| lines.iter().any(|(crate_name, _)| crate_name == name);
     let used = |names: &str| names.split(' ').filter(known).map(String::from).collect();
     let named = lines
@@ -108,12 +112,12 @@ fn marked(document: &str) -> Vec<&str> {
         .collect()
 }
 
-/// The files below a folder that have this extension.
+/// The files below a folder that have this extension; not what rt made, in the folders `out`.
 fn files(folder: &Path, extension: &str) -> Vec<PathBuf> {
     let mut found = Vec::new();
     for entry in fs::read_dir(folder).into_iter().flatten() {
         let path = entry.expect("a file").path();
-        if path.is_dir() {
+        if path.is_dir() && !path.ends_with("out") {
             found.extend(files(&path, extension));
         } else if path.extension().is_some_and(|e| e == extension) {
             found.push(path);
@@ -131,42 +135,61 @@ fn proved_in(theorem: &str) -> Vec<PathBuf> {
     proofs
 }
 
-fn is_theorem(name: &str) -> bool {
-    let letters = |c: char| c.is_ascii_lowercase() || c.is_ascii_digit() || c == '-';
-    name.contains('-') && name.starts_with(char::is_alphabetic) && name.chars().all(letters)
+/// The theorems of a document's tables, which stand under the head "theorem", each with the proof files that its row
+/// names; "the same" are those of the row above.
+fn theorems(document: &str) -> Vec<(&str, Vec<&str>)> {
+    let (mut found, mut places, mut inside) = (Vec::new(), Vec::new(), false);
+    for line in document.lines() {
+        let cells: Vec<&str> = line.trim_matches(['|', ' ']).split(" | ").collect();
+        let (first, last) = (cells[0], cells[cells.len() - 1]);
+        inside = line.starts_with('|') && (inside || first == "theorem");
+        if !inside || first == "theorem" {
+            places.clear();
+            continue;
+        }
+        if last != "the same" {
+            let files = marked(last).into_iter();
+            places = files.filter(|name| name.ends_with(".antt")).collect();
+        }
+        found.extend(marked(first).into_iter().map(|name| (name, places.clone())));
+    }
+    found
 }
 
-/// Every theorem of AUDIT and DECISIONS is proved; in the file that its row of a
-/// table names.
+/// Every theorem of the tables of AUDIT and DECISIONS is proved; in a file that its row names, if it names any.
 #[test]
 fn theorems_are_proved() {
     let mut faults = Vec::new();
-    for line in (text(AUDIT) + &text(DECISIONS)).lines() {
-        let names = marked(line);
-        let places: Vec<&&str> = names
-            .iter()
-            .filter(|name| name.ends_with(".antt"))
-            .collect();
-        for theorem in names.iter().filter(|name| is_theorem(name)) {
-            let proofs = proved_in(theorem);
-            let named = |file: &PathBuf| places.iter().any(|place| file.ends_with(place));
-            let in_row = !line.starts_with('|') || places.is_empty() || proofs.iter().any(named);
-            if proofs.is_empty() || !in_row {
-                faults.push(format!("{theorem}: {places:?}"));
-            }
+    let (audit, decisions) = (text(AUDIT), text(DECISIONS));
+    let all = [theorems(&audit), theorems(&decisions)].concat();
+    assert!(all.len() > 60, "{} theorems", all.len());
+    for (theorem, places) in all {
+        let proofs = proved_in(theorem);
+        let named = |file: &PathBuf| places.iter().any(|place| file.ends_with(place));
+        if proofs.is_empty() || !(places.is_empty() || proofs.iter().any(named)) {
+            faults.push(format!("{theorem}: {places:?}"));
         }
     }
     assert_none(faults);
 }
 
-/// A name of AUDIT that is one word is declared in the crates or the header; these
-/// are words of the languages and tools.
+/// A name of AUDIT or DECISIONS that is one word is declared in the crates, the header or the Rust side; these are words
+/// of the languages and tools, and keys.
 const OTHER: &str = "Bool Unit abbrev cc data declared e ensures ltb memcpy memmove memset node \
-                     points pub record refusal replay requires sp_ unfoldable zero";
+                     points pub record refusal replay requires sp_ capi_ unfoldable zero";
+
+/// Whether a name is one of a definition, a function or a theorem: of DECISIONS, which speaks of other things too, only
+/// those of several words.
+fn is_name(document: &str, name: &str) -> bool {
+    let letters = |c: char| c.is_ascii_alphanumeric() || "_-".contains(c);
+    name.starts_with(|c: char| c.is_ascii_alphabetic())
+        && name.chars().all(letters)
+        && (document == AUDIT || name.contains(['_', '-']))
+}
 
 #[test]
 fn names_are_declared() {
-    let crates = root().join("crates");
+    let (crates, rust) = (root().join("crates"), root().join("rust"));
     let sources = [files(&crates, "antt"), files(&crates, "rt")].concat();
     let sources = sources
         .iter()
@@ -176,18 +199,23 @@ fn names_are_declared() {
         let forms = [
             format!("pub {name} "),
             format!("pub record {name} "),
+            format!("pub data {name} "),
             format!("fn {name}("),
             format!("fn {name}<"),
             format!("sp_result {name}("),
         ];
-        forms.iter().any(|form| all.contains(form))
+        let is_crate = crates.join(name).is_dir() || rust.join(name).is_dir();
+        is_crate || forms.iter().any(|form| all.contains(form))
     };
-    let word = |name: &&str| name.chars().all(|c| c.is_ascii_alphanumeric() || c == '_');
-    let audit = text(AUDIT);
-    let mut names = marked(&audit);
-    names.retain(|name| word(name) && !OTHER.split(' ').any(|other| other == *name));
-    names.retain(|name| !declared(name));
-    assert_none(names.into_iter().map(String::from).collect());
+    let mut faults = Vec::new();
+    for document in [AUDIT, DECISIONS] {
+        let text = text(document);
+        let mut names = marked(&text);
+        names.retain(|name| is_name(document, name) && !OTHER.split(' ').any(|o| o == *name));
+        names.retain(|name| !declared(name));
+        faults.extend(names.iter().map(|name| format!("{document}: {name}")));
+    }
+    assert_none(faults);
 }
 
 /// Every path from the root, and every link to a file, leads to something.
@@ -300,7 +328,7 @@ fn prose_wraps() {
 /// What the tests must see, on small texts.
 #[test]
 fn faults_are_seen() {
-    let all = uses("a:\nb: a\nc: a b libc\n");
+    let all = uses("# d: a\na:\nb: a\nc staticlib: a b json\n");
     assert_eq!(all["c"].len(), 2);
     assert_eq!(reduced(&all)["c"].iter().collect::<Vec<_>>(), ["b"]);
     let picture = "<rect/><text>a</text>\n<rect/><text>b</text><text>uses a</text>\n\
@@ -308,7 +336,18 @@ fn faults_are_seen() {
     assert_eq!(drawn(picture), reduced(&all));
     assert_ne!(drawn(&picture.replace("c-b", "c-a")), reduced(&all));
     assert_eq!(marked("`a` b\n```\n`c`\n```\n`d`"), ["a", "d"]);
-    assert!(is_theorem("a-b") && !is_theorem("a") && !is_theorem("--"));
+    let table = "`a`\n\n| theorem | says | proved in |\n|---|---|---|\n| `a`, `b-c` | `d` | `x/E.antt` |\n\
+                 | `f` | g | the same |\n\n| theorem | says |\n|---|---|\n| `h` | `I.antt.` |\n| word | `j` |\n";
+    let places = vec!["x/E.antt"];
+    let found = [
+        ("a", places.clone()),
+        ("b-c", places.clone()),
+        ("f", places),
+        ("h", vec![]),
+    ];
+    assert_eq!(theorems(table), found);
+    assert!(is_name(AUDIT, "a") && is_name(DECISIONS, "a_b") && !is_name(DECISIONS, "a"));
+    assert!(!is_name(AUDIT, "--a") && !is_name(AUDIT, "a b") && is_name(AUDIT, "a-b_c"));
     assert_eq!(expanded("a/{B,C}.x"), ["a/B.x", "a/C.x"]);
     assert_eq!(said("1,234 lines more in 5 files: x"), (1234, 5));
 }

@@ -64,6 +64,15 @@ fn written(signature: &str) -> Vec<&str> {
     lent.map(|(name, _)| name.trim()).collect()
 }
 
+/// Whether a contract has these words, and not as the end of other ones.
+fn says(contract: &str, words: &str) -> bool {
+    let of_word = |c: char| c.is_alphanumeric() || c == '_';
+    contract.match_indices(words).any(|(at, _)| {
+        let (before, after) = (&contract[..at], &contract[at + words.len()..]);
+        !before.ends_with(|c| of_word(c) || c == '.') && !after.starts_with(of_word)
+    })
+}
+
 /// What a function fails to say.
 fn lacks(function: &Public) -> Vec<String> {
     let name = &function.name;
@@ -80,7 +89,7 @@ fn lacks(function: &Public) -> Vec<String> {
     }
     let contract = function.contract.join(" ");
     for slice in written(&function.signature) {
-        if !contract.contains(&format!("now ({slice} .exit)")) {
+        if !says(&contract, &format!("{slice}.new")) {
             faults.push(format!("{name} does not say what becomes of {slice}"));
         }
     }
@@ -105,7 +114,7 @@ fn every_public_function_states_what_it_owes() {
     let list = fs::read_to_string(root().join("crates.txt")).expect("crates.txt");
     let (mut count, mut faults) = (0, Vec::new());
     for line in list.lines() {
-        let krate = line.split(':').next().expect("a crate's name");
+        let krate = line.split([':', ' ', '#']).next().expect("a crate's name");
         for file in visible(&root().join("crates").join(krate).join("src")) {
             for function in public(&fs::read_to_string(file).expect("a file")) {
                 count += 1;
@@ -120,16 +129,18 @@ fn every_public_function_states_what_it_owes() {
 /// What the test must see, on small texts.
 #[test]
 fn gaps_are_seen() {
-    let code = "pub fn a(x: u8, out: &mut [u8]) -> u8\n    ensures { r }\n    \
-                ensures { now (out .exit) }\n{\n    x\n}\nfn b()\n    requires { x }\n{\n}\n";
+    let code = "pub fn a(x: u8, out: &mut [u8]) -> u8\n    ensures told { result }\n    \
+                ensures left { f out.new }\n{\n    x\n}\nfn b()\n    requires { x }\n{\n}\n";
     let found = public(code);
     assert_eq!(found.len(), 1);
     assert_eq!(found[0].name, "a");
     assert_eq!(written(&found[0].signature), ["out"]);
     assert_eq!(lacks(&found[0]), Vec::<String>::new());
     for (old, new) in [
-        ("ensures { r }", "requires { r }"),
-        (".exit", ".entry"),
+        ("ensures told", "requires told"),
+        (".new", ".old"),
+        ("out.new", "layout.new"),
+        ("out.new", "out.newer"),
         ("out: &mut", "more: &mut [u8], out: &mut"),
     ] {
         let changed = public(&code.replace(old, new));

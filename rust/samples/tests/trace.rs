@@ -123,6 +123,16 @@ fn unmatched(rules: &[u32], blocks: &[Block]) -> Vec<String> {
 /// What the crates have: the name of a block's line, a crate, a name.
 type Names = BTreeSet<(&'static str, String, String)>;
 
+/// The crates that `crates.txt` lists. Behind a name its kind can stand, as in `capi staticlib: wire`.
+fn crates() -> Vec<String> {
+    let list = text("crates.txt");
+    let names = list
+        .lines()
+        .filter_map(|line| line.split(['#', ':', ' ']).next());
+    let names = names.filter(|name| !name.is_empty());
+    names.map(String::from).collect()
+}
+
 /// The files below a folder that have this extension.
 fn files(folder: &Path, extension: &str) -> Vec<PathBuf> {
     let mut found = Vec::new();
@@ -180,10 +190,8 @@ fn functions(code: &str) -> Vec<String> {
 
 fn names() -> Names {
     let mut names = Names::new();
-    let list = text("crates.txt");
-    for line in list.lines() {
-        let krate = line.split(':').next().expect("a crate's name");
-        let folder = root().join("crates").join(krate);
+    for krate in crates() {
+        let folder = root().join("crates").join(&krate);
         let mut add = |kind, name: String| names.insert((kind, krate.to_string(), name));
         for file in files(&folder.join("specs"), "antt") {
             for name in fs::read_to_string(&file).expect("text").lines() {
@@ -354,12 +362,11 @@ impl Citations {
 
 fn citations() -> Citations {
     let mut found = Citations::default();
-    for line in text("crates.txt").lines() {
-        let krate = line.split(':').next().expect("a crate's name");
-        for file in files(&root().join("crates").join(krate).join("specs"), "antt") {
+    for krate in crates() {
+        for file in files(&root().join("crates").join(&krate).join("specs"), "antt") {
             let path = file.strip_prefix(root()).expect("below the root");
             let path = path.to_string_lossy();
-            found.add(krate, &path, &text(&path));
+            found.add(&krate, &path, &text(&path));
         }
     }
     found
