@@ -176,7 +176,7 @@ fn theorems_are_proved() {
 /// A name of AUDIT or DECISIONS that is one word is declared in the crates, the header or the Rust side; these are words
 /// of the languages and tools, and keys.
 const OTHER: &str = "Bool Unit abbrev cc data declared e ensures ltb memcpy memmove memset node \
-                     points pub record refusal replay requires result sp_ capi_ unfoldable zero";
+                     points pub record refusal replay requires result sp_ capi_ std unfoldable zero";
 
 /// Whether a name is one of a definition, a function or a theorem: of DECISIONS, which speaks of other things too, only
 /// those of several words.
