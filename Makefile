@@ -118,13 +118,13 @@ bench: library target/bin/replay
 performance: library target/bin/replay
 	$(BENCH) write
 
-# The lines of each crate and its wrong answers, as the rows of a table in docs/PERFORMANCE.md.
+# The lines of each crate and its edits, those without and those with a line `expect:`, as the rows of a table in docs/PERFORMANCE.md.
 count = $$(find crates/$$c/$(1) 2>/dev/null $(2) -exec cat {} + | wc -l)
-files = $$(find crates/$$c/$(1) -name '*.edit' $(2) 2>/dev/null | wc -l)
+edits = $$(grep -r$(1)E '^(\# )?expect:' crates/$$c/must-fail | wc -l)
 sizes:
 	@for c in $(CRATES); do \
 	    echo "| \`$$c\` | $(call count,src,-name '*.rt' ! -name entries.rt) | $(call count,specs,-name '*.antt') |" \
-	        "$(call count,proofs,-name '*.antt') | $(call files,must-fail,! -path '*/quick/*') | $(call files,must-fail,-path '*/quick/*') |"; \
+	        "$(call count,proofs,-name '*.antt') | $(call edits,L) | $(call edits,l) |"; \
 	done
 
 # Mutants of the code, and of the definitions that contracts cite: make mutants CRATE=store N=60 SEED=7 (no CRATE: every crate)

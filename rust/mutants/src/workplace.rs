@@ -14,7 +14,7 @@ use std::time::{Duration, Instant};
 const LONGEST: Duration = Duration::from_secs(600);
 
 /// Where a check keeps its work, below its crate's folder.
-const KEPT: &str = "out/incremental";
+pub const KEPT: &str = "out/incremental";
 
 /// What a copy has of a crate beside its files: the library, for the crates above.
 const LIBRARY: &str = "out/rlib";
