@@ -337,17 +337,17 @@ fn answers() -> [(Vec<u8>, &'static str, &'static [&'static str]); 3] {
         (
             list(),
             "comp/scale-3",
-            &["explain", "winner-is-held", "reasons-mean"],
+            &["explain", "winner_is_held", "reasons_mean"],
         ),
         (
             list(),
             "comp/scale-",
-            &["explain", "none-means", "winner-is-held"],
+            &["explain", "none_means", "winner_is_held"],
         ),
         (
             list()[..100].to_vec(),
             "comp/scale-3",
-            &["explain", "report-refused", "readable-exactly"],
+            &["explain", "report_refused", "readable_exactly"],
         ),
     ]
 }

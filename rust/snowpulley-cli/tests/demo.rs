@@ -21,7 +21,7 @@ fn the_audit_has_the_demos_theorems() {
         };
         for name in names.split([':', ',']).map(str::trim) {
             let name = match name {
-                "history" => "delivery-history",
+                "history" => "delivery_history",
                 name => name,
             };
             let known = name.is_empty() || audit.contains(&format!("`{name}`"));

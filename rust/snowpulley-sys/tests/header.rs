@@ -25,9 +25,11 @@ fn declarations() -> String {
 /// `capi_` before its subject.
 fn interface() -> String {
     let list = text("crates.txt");
-    let crates = list.lines().filter_map(|line| line.split_once(':'));
+    // behind a name its kind stands, as in `capi staticlib: wire`
+    let crates = list
+        .lines()
+        .filter_map(|line| line.split([':', ' ', '#']).next());
     crates
-        .map(|(krate, _)| krate)
         .filter(|krate| *krate == "capi" || krate.starts_with("capi_"))
         .map(code)
         .collect::<Vec<_>>()
@@ -126,7 +128,7 @@ fn rattle_functions(code: &str) -> Functions {
     functions.map(|f| function(f, lent)).collect()
 }
 
-const RATTLE_FUNCTION: &str = "#[no_mangle]\npub extern \"C\" fn ";
+const RATTLE_FUNCTION: &str = "#[unsafe(no_mangle)]\npub extern \"C\" fn ";
 
 type Parameter = (String, String);
 
@@ -223,7 +225,7 @@ fn same_functions() {
     // Every declaration was seen.
     assert_eq!(c.len(), declarations.matches("pub fn sp_").count());
     assert_eq!(c.len(), code.matches("extern \"C\"").count());
-    assert_eq!(c.len(), code.matches("#[no_mangle]").count());
+    assert_eq!(c.len(), code.matches("#[unsafe(no_mangle)]").count());
     assert!(c.len() > 30);
 }
 
@@ -320,7 +322,8 @@ fn differences_are_seen() {
     assert_eq!(typed, c_functions("uint32_t sp_a(uint8_t h);"));
     let rust = "extern \"C\" { pub fn sp_a(key: *const u8, key_len: usize) -> u32; }";
     assert_eq!(rust_functions(rust), right);
-    let rattle = "#[no_mangle]\npub extern \"C\" fn sp_a(key: &[u8]) -> u32\n    ensures {}";
+    let rattle =
+        "#[unsafe(no_mangle)]\npub extern \"C\" fn sp_a(key: &[u8]) -> u32\n    ensures {}";
     assert_eq!(rattle_functions(rattle), right);
     for (old, new) in [
         ("&[", "&mut ["),

@@ -78,8 +78,8 @@ fn definition(specs: &str) -> Table {
 fn last_number(specs: &str) -> u64 {
     let line = specs
         .lines()
-        .find_map(|line| line.strip_prefix("lastNumber = "));
-    line.expect("lastNumber").trim().parse().expect("a number")
+        .find_map(|line| line.strip_prefix("last_number = "));
+    line.expect("last_number").trim().parse().expect("a number")
 }
 
 /// The header's list.
@@ -117,7 +117,7 @@ fn one_name_and_one_number() {
     assert_eq!(cases(&code), names(&right), "the enum");
     assert_eq!(definition(&specs), right, "the definition");
     let last = right.last().map(|(_, number)| *number);
-    assert_eq!(Some(last_number(&specs)), last, "lastNumber");
+    assert_eq!(Some(last_number(&specs)), last, "last_number");
     let header = header();
     assert_eq!(listed(&header), right, "the header");
     let named = right.iter().map(|(name, _)| (name.clone(), name.clone()));
@@ -170,7 +170,7 @@ fn differences_are_seen() {
         returned(&lines.replace("\"SELF\"", "\"SELVES\"")),
         self_named
     );
-    let defined = "number refusal.BadKey = 1\nnumber refusal.OwnPeer = 30\nlastNumber = 30\n";
+    let defined = "number refusal.BadKey = 1\nnumber refusal.OwnPeer = 30\nlast_number = 30\n";
     assert_eq!(definition(defined), right);
     assert_eq!(last_number(defined), 30);
     let model = "refusals! {\n    BadKey = 1,\n    SelfPeer = 30,\n}\n";

@@ -25,13 +25,13 @@ pub const WINNER: Checked = Checked {
         (
             "The delivery in force is what a new store holds, and all that it holds, after the \
              deliveries of this key were offered to it in the order of the list.",
-            "winner-is-held",
+            "winner_is_held",
         ),
         (
             "Each outcome is true of the stamps of its delivery and of the one in force, and of \
              their contents where the stamps are the same. One delivery is in force; if the same \
              entry came more than once, the first of them.",
-            "reasons-mean",
+            "reasons_mean",
         ),
     ],
 };
@@ -42,11 +42,11 @@ pub const NO_DELIVERY: Checked = Checked {
     theorems: &[
         (
             "Every delivery of the list is of another key, and its outcome says so.",
-            "none-means",
+            "none_means",
         ),
         (
             "A new store that was offered the deliveries of this key is still empty.",
-            "winner-is-held",
+            "winner_is_held",
         ),
     ],
 };
@@ -57,12 +57,12 @@ pub const UNREADABLE: Checked = Checked {
     theorems: &[
         (
             "This answer is given for every list that is not readable, and for no other.",
-            "report-refused",
+            "report_refused",
         ),
         (
             "A list is readable exactly if it has at most 1,000 frames (messages), one behind the \
              other, and each of them reads as a REPL.",
-            "readable-exactly",
+            "readable_exactly",
         ),
     ],
 };

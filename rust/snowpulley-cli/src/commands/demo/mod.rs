@@ -183,12 +183,12 @@ impl Demo {
         let put = Message::Put { key, value };
         self.request("handled", MENDED_AT, First, &put, &Message::Ok)?;
         let (get, found) = (Message::Get { key }, Message::Value { value });
-        self.request("get-frame-after-put-frame", MENDED_AT, First, &get, &found)?;
+        self.request("get_frame_after-put_frame", MENDED_AT, First, &get, &found)?;
         let key = LOAD;
         let (del, get) = (Message::Del { key }, Message::Get { key });
         self.request("handled", MENDED_AT, First, &del, &Message::Ok)?;
         let none = Message::NotFound;
-        self.request("get-frame-after-del-frame", MENDED_AT, First, &get, &none)
+        self.request("get_frame_after_del_frame", MENDED_AT, First, &get, &none)
     }
 
     fn wake(&mut self) -> Result<(), Refusal> {
@@ -257,11 +257,11 @@ impl Demo {
             "all up: the STANDING owners are {}",
             owners_shown(&standing)
         );
-        self.tale.check("finds-owners", &said, holds);
+        self.tale.check("finds_owners", &said, holds);
         let standing = cluster(&[2, 3])?.walk(CORRECTION)?.standing;
         let said = format!("2 and 3 are DOWN: {}", owners_shown(&standing));
         self.tale
-            .check("too-few-exactly", &said, standing.is_none());
+            .check("too_few_exactly", &said, standing.is_none());
         Ok(())
     }
 }

@@ -20,15 +20,15 @@ impl Demo {
             let removed = store::purge(self.store(which), LINE)?;
             let line = time_of_day(LINE);
             let said = format!("purges to {line} of the day before: tombstones removed: {removed}");
-            self.check("purgeAnswer", NEXT_DAY, which, &said, removed == 1);
+            self.check("purge_answer", NEXT_DAY, which, &said, removed == 1);
         }
-        self.compare("afterPurge");
+        self.compare("after_purge");
         let heading =
             "Module 3 slept since they agreed and still has the test load. It does not come back.";
         self.tale.heading(heading);
         self.send_old()?;
         self.merge_old();
-        self.look_up("nothing-comes-back", NEXT_DAY, First, LOAD, Found::Never)?;
+        self.look_up("nothing_comes_back", NEXT_DAY, First, LOAD, Found::Never)?;
         let heading = "Module 3's store is made anew, as a copy of module 1's: they merge again.";
         self.tale.heading(heading);
         self.asleep = self.store(First).clone();
@@ -56,7 +56,7 @@ impl Demo {
         let name = told.map_or_else(Refusal::name, |_| "nothing is refused");
         let said = format!("merges module 3's store: {name}");
         let holds = told == Err(Refusal::UnequalLines) && *self.store(First) == before;
-        self.check("mergeAnswer", NEXT_DAY, First, &said, holds);
+        self.check("merge_answer", NEXT_DAY, First, &said, holds);
     }
 
     fn merge_copy(&mut self) {
@@ -68,6 +68,6 @@ impl Demo {
         );
         let said = format!("merges module 3's store: {passed}");
         let holds = told == Ok(0) && *self.store(First) == copy;
-        self.check("history-after-purge", NEXT_DAY, First, &said, holds);
+        self.check("history_after_purge", NEXT_DAY, First, &said, holds);
     }
 }

@@ -72,7 +72,7 @@ impl Demo {
         let said = format!(
             "one stamp, two values: both hold {above}, written first, but above {below} by bytes"
         );
-        self.tale.check("equal-stamps", &said, holds);
+        self.tale.check("equal_stamps", &said, holds);
     }
 
     fn merge_first(&mut self, spare: Module) -> Result<(), Refusal> {
@@ -86,7 +86,7 @@ impl Demo {
         let put = Message::Put { key, value };
         let number = Refusal::Overtaken as u8;
         let err = Message::Err { number };
-        self.request("overtaken-exactly", RESTORED_AGAIN, First, &put, &err)
+        self.request("overtaken_exactly", RESTORED_AGAIN, First, &put, &err)
     }
 }
 
