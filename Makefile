@@ -118,13 +118,13 @@ bench: library target/bin/replay
 performance: library target/bin/replay
 	$(BENCH) write
 
-# The lines of each crate and its edits, those without and those with a line `expect:`, as the rows of a table in docs/PERFORMANCE.md.
+# The lines of each crate and its edits, as the rows of a table in docs/PERFORMANCE.md.
 count = $$(find crates/$$c/$(1) 2>/dev/null $(2) -exec cat {} + | wc -l)
-edits = $$(grep -r$(1)E '^(\# )?expect:' crates/$$c/must-fail | wc -l)
+edits = $$(find crates/$$c/$(1) -name '*.edit' 2>/dev/null | wc -l)
 sizes:
 	@for c in $(CRATES); do \
 	    echo "| \`$$c\` | $(call count,src,-name '*.rt' ! -name entries.rt) | $(call count,specs,-name '*.antt') |" \
-	        "$(call count,proofs,-name '*.antt') | $(call edits,L) | $(call edits,l) |"; \
+	        "$(call count,proofs,-name '*.antt') | $(call edits,must-fail) | $(call edits,wrong-answers) |"; \
 	done
 
 # Mutants of the code, and of the definitions that contracts cite: make mutants CRATE=store N=60 SEED=7 (no CRATE: every crate)
@@ -133,7 +133,7 @@ N = 150
 mutants:
 	cd rust && $(CARGO) run --release --offline --quiet -p snowpulley-mutants -- run $(addprefix --crate ,$(CRATE)) --code $(N) --seed $(SEED) --jobs $(JOBS) ..
 
-# Each wrong answer that says what must fall: make wrong-answers CRATE=store (no CRATE: every crate; ONCE=--once: one for each name)
+# Each wrong answer in crates/*/wrong-answers: make wrong-answers CRATE=store (no CRATE: every crate; ONCE=--once: one for each name)
 ONCE =
 wrong-answers:
 	cd rust && $(CARGO) run --release --offline --quiet -p snowpulley-mutants -- edits $(addprefix --crate ,$(CRATE)) $(ONCE) --jobs $(JOBS) ..

@@ -6,8 +6,6 @@
 //! new: text in its place
 //! expect: the function, or the theorem, that is then not proved for a fact of its own
 //! ```
-//!
-//! The last line can begin with `# `, and other lines that begin with `#` are comments.
 
 use crate::antt::Laws;
 use crate::group::Body;
@@ -42,11 +40,6 @@ impl Edit {
         };
         let (mut file, mut old) = ("", "");
         for line in text.lines() {
-            let line = match line.strip_prefix("# ") {
-                Some(named) if named.starts_with("expect:") => named,
-                _ if line.starts_with('#') => continue,
-                _ => line,
-            };
             match line.split_once(':') {
                 Some(("file", rest)) => file = rest.trim(),
                 Some(("old", rest)) => old = rest.strip_prefix(' ').unwrap_or(rest),

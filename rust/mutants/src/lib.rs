@@ -1,6 +1,6 @@
 //! Mutation testing of the proved crates. A mutant is a small change of the code, or of a definition that a
 //! contract cites; the prover must refuse it. One that it proves is the same program, or shows a promise that is
-//! not made. The same machinery tries the hand-written wrong answers below `crates/*/must-fail/`.
+//! not made. The same machinery tries the hand-written wrong answers in `crates/*/wrong-answers/`.
 
 pub mod antt;
 pub mod change;

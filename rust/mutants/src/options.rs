@@ -12,7 +12,7 @@ mutants run [--crate NAME].. [--code N] [--definitions N] [--seed N] [--jobs N] 
 mutants list [--crate NAME].. ROOT
     prints every mutant that could be tried, and checks none
 mutants edits [--crate NAME].. [--edit LABEL].. [--once] [--jobs N] ROOT
-    tries each crates/*/must-fail/quick/*.edit; fails if what it names is not refused for a fact of its own,
+    tries each crates/*/wrong-answers/*.edit; fails if what it names is not refused for a fact of its own,
     or if a public function has fewer than two; --once: the first for each function and theorem
 mutants count [--crate NAME].. ROOT
     says which public functions have fewer than two wrong answers of their own, and checks nothing";

@@ -41,7 +41,9 @@ impl Workplace {
     /// A fresh copy of the crates at `from`, with the libraries that were built there.
     pub fn new(from: &Path, root: PathBuf, bases: PathBuf) -> io::Result<Workplace> {
         copy_folder(&from.join("crates"), &root.join("crates"), &|path| {
-            !path.ends_with("out") && !path.ends_with("must-fail")
+            !["out", "must-fail", "wrong-answers"]
+                .iter()
+                .any(|part| path.ends_with(part))
         })?;
         for item in fs::read_dir(from.join("crates"))? {
             let folder = item?.path();

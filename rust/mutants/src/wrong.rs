@@ -264,17 +264,12 @@ fn complaint(edit: &Edit, log: &Log) -> String {
     )
 }
 
-/// The edits that say what must fall: all below quick/, and others that have such a line.
 fn edits_of(repository: &Repository, name: &str) -> Result<Vec<Edit>, String> {
     let files = repository
-        .files(name, "must-fail", "edit")
+        .files(name, "wrong-answers", "edit")
         .map_err(|e| format!("{name}: {e}"))?;
     let mut found = Vec::new();
     for (file, text) in files {
-        let says = |line: &str| line.starts_with("expect:") || line.starts_with("# expect:");
-        if !file.contains("/quick/") && !text.lines().any(says) {
-            continue;
-        }
         let label = file
             .rsplit('/')
             .next()

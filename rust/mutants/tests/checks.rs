@@ -186,8 +186,6 @@ fn an_edit_changes_a_text_that_stands_once() {
     let two_lines = "file: src/lib.rt\nold: x\n  more\nnew: y\nexpect: f\n";
     assert!(Edit::read("a", "b", two_lines).is_err());
     assert!(Edit::read("a", "b", "file: src/lib.rt\nold: x\nnew: x\nexpect: f\n").is_err());
-    let noted = "# why\nfile: src/lib.rt\nold: x\nnew: y\n# expect: f\n";
-    assert_eq!(Edit::read("a", "b", noted).unwrap().expect, "f");
 }
 
 #[test]

@@ -210,8 +210,10 @@ fn names() -> Names {
                 add("theorem", name.to_string());
             }
         }
-        for file in files(&folder.join("must-fail"), "edit") {
-            add("wrong answers", stem(&file));
+        for place in ["must-fail", "wrong-answers"] {
+            for file in files(&folder.join(place), "edit") {
+                add("wrong answers", stem(&file));
+            }
         }
     }
     names
