@@ -2,10 +2,9 @@
 
 mod common;
 
-use common::{file, run, run_with, temporary, tool};
+use common::{file, run, run_with, temporary, tool, Link};
 use samples::script::{framed, record, repl_message, stamp};
 use std::fs::{self, File};
-use std::os::unix::fs::symlink;
 use std::path::Path;
 
 #[test]
@@ -50,18 +49,17 @@ fn names_are_shown_so_that_they_do_nothing() {
     assert!(gone.status == 2 && gone.err.contains(shown), "{gone:?}");
 }
 
-/// Other ways to a file: a folder more, a link to it, a link that is the file.
-fn ways(path: &Path) -> Vec<String> {
+/// Other ways to a file: a folder more, a link to it, a link that is the file. They are there as long as the first link.
+fn ways(path: &Path) -> (Vec<String>, Link) {
     let (link, hard) = (path.with_extension("link"), path.with_extension("hard"));
-    for old in [&link, &hard] {
-        let _ = fs::remove_file(old);
-    }
-    symlink(path, &link).unwrap();
+    let _ = fs::remove_file(&hard);
+    let made = Link::new(path, link.clone());
     fs::hard_link(path, &hard).unwrap();
     let (folder, name) = (path.parent().unwrap(), path.file_name().unwrap());
     let around = folder.join("..").join(folder.file_name().unwrap());
     let paths = [path.to_path_buf(), around.join(name), link, hard];
-    paths.map(|path| path.to_str().unwrap().to_string()).into()
+    let paths = paths.map(|path| path.to_str().unwrap().to_string());
+    (paths.into(), made)
 }
 
 #[test]
@@ -78,7 +76,8 @@ fn an_output_that_is_the_input_is_refused() {
         (&journal, &["replay", &journal, "--deliveries"]),
     ];
     for (input, words) in commands {
-        for output in ways(Path::new(input)) {
+        let (outputs, _link) = ways(Path::new(input));
+        for output in outputs {
             let told =
                 format!("{output:?} is the same file as {input:?}, which would be overwritten");
             run(&[words, &[&output]].concat()).fails(&format!("{}: {told}", words[0]));

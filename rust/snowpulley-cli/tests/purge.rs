@@ -2,10 +2,10 @@
 
 mod common;
 
-use common::{file, run, run_with, store_of, temporary, tool, Given, Run};
+use common::{file, run, run_with, store_of, temporary, tool, Given, Link, Run};
 use reference::store::purge;
 use std::fs::{self, Permissions};
-use std::os::unix::fs::{chown, symlink, MetadataExt, PermissionsExt};
+use std::os::unix::fs::{chown, MetadataExt, PermissionsExt};
 use std::path::{Path, PathBuf};
 
 /// 2025-01-14 06:40:00 UTC.
@@ -140,9 +140,9 @@ fn a_link_leads_to_the_store() {
     let folder = folder("purge-link");
     let (path, link) = (folder.join("store"), folder.join("link"));
     fs::write(&path, image()).unwrap();
-    symlink("store", &link).unwrap();
-    assert_eq!(purge_file(&link, MORNING + 1).status, 0);
-    assert!(fs::symlink_metadata(&link).unwrap().is_symlink());
+    let link = Link::new(Path::new("store"), link);
+    assert_eq!(purge_file(&link.0, MORNING + 1).status, 0);
+    assert!(fs::symlink_metadata(&link.0).unwrap().is_symlink());
     assert_eq!(fs::read(&path).unwrap(), purged(MORNING + 1));
     assert_eq!(names(&folder), ["link", "store"]);
 }

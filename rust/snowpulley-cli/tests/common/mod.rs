@@ -90,6 +90,24 @@ pub fn temporary(name: &str) -> PathBuf {
     Path::new(env!("CARGO_TARGET_TMPDIR")).join(name)
 }
 
+/// A link to a file, gone when the test ends, however it ends: rt takes no checkout with a link in it.
+#[derive(Debug)]
+pub struct Link(pub PathBuf);
+
+impl Link {
+    pub fn new(target: &Path, at: PathBuf) -> Link {
+        let _ = std::fs::remove_file(&at);
+        std::os::unix::fs::symlink(target, &at).expect("the link is made");
+        Link(at)
+    }
+}
+
+impl Drop for Link {
+    fn drop(&mut self) {
+        let _ = std::fs::remove_file(&self.0);
+    }
+}
+
 /// A file with some bytes.
 pub fn file(name: &str, bytes: &[u8]) -> PathBuf {
     let path = temporary(name);
