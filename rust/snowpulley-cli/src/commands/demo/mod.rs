@@ -46,7 +46,7 @@ const WOKE: u64 = AGREED + 290 * MINUTE;
 
 const INTRODUCTION: &str = "\
 What went wrong on the site, on the proved library. Each line names, on the left, the theorem of
-docs/AUDIT.md or the definition that it shows; 'history' stands for 'delivery-history'.
+docs/AUDIT.md or the definition that it shows; 'history' stands for 'delivery_history'.
 ";
 
 fn run(args: Args) -> Outcome {
