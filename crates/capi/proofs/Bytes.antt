@@ -4,22 +4,29 @@ use mathlib.Core.Logic.{inl, inr}
 use mathlib.Core.Bool.{false, cond, not, or-true}
 use mathlib.Core.List.{List}
 use Prim.Native.Nat.{ℕ, ◌≤◌}
+use Rattle.std.specs.Prelude.{Result}
 use native.Mathlib.Omega.{arith}
 use lib.ListN.{length}
-use lib.Dec.{ltb, eqb}
-use borrow.Author.Tests.{lt-ltb}
+use lib.Dec.{ltb, leb, eqb}
+use borrow.Author.Tests.{lt-ltb, leb-true}
 use Rattle.wire.proofs.Tests.{test}
+use Rattle.entry.specs.declared.Refusal.{Refusal}
 use Rattle.entry.specs.declared.Stamp.{Stamp}
+use Rattle.entry.specs.Acceptance.{refusal_number}
 use Rattle.entry.specs.Key.{bad_key}
 use Rattle.entry.specs.Entry.{entry_of, bad_time, bad_flag, refusal_of}
-use Rattle.frame.specs.declared.answer.Wrote.{Wrote}
 use Rattle.frame.specs.Message.{Message, repl, err, message_refusal, time_fault, key_fault, value_fault, argument_fault}
-use Rattle.frame.specs.Writing.{write_refusal, write_answer, after_write, Writes}
+use Rattle.frame.specs.Layout.{frame_of}
+use Rattle.frame.specs.Writing.{answer_of, write_refusal, write_answer, after_write}
 use Rattle.image.specs.Image.{sound}
 use Rattle.store.specs.Answer.{refused, is_refused}
 use Rattle.store.specs.Offer.{offer_answer, after_offer}
+use Rattle.capi_words.specs.Result.{packed, count_in}
 use Rattle.capi_words.specs.Words.{byte_of}
 use Rattle.capi_words.proofs.Bytes.{either}
+use Rattle.capi_words.proofs.Halves.{both}
+use Rattle.capi.specs.Frame.{write_word, write_bytes}
+use Rattle.capi.proofs.Frames.{wrote_told}
 
 -- ---- a flag
 module _ (k v : List ℕ) (stamp : Stamp) where
@@ -28,16 +35,9 @@ module _ (k v : List ℕ) (stamp : Stamp) where
   flag_refusal = cond (bad_time stamp.phys) 9 (cond (bad_key k) 1 (cond (ltb 512 (length v)) 2 17))
 
   not_accepted : eqb flag_refusal 0 ≡ false
-  not_accepted = elim (test (bad_time stamp.phys)) [
-    | inl p ↦ rw p
-    | inr p ↦ elim (test (bad_key k)) [
-      | inl q ↦ rw (p, q)
-      | inr q ↦ elim (test (ltb 512 (length v))) [
-        | inl w ↦ rw (p, q, w)
-        | inr w ↦ rw (p, q, w)
-      ]
-    ]
-  ]
+  not_accepted =
+      let P : ℕ → Type 0 = λ n. eqb n 0 ≡ false in
+      both P (bad_time stamp.phys) 9 _ refl (both P (bad_key k) 1 _ refl (both P (ltb 512 (length v)) 2 17 refl refl))
 
   flag_refused : (f : ℕ) → 2 ≤ f → refusal_of (entry_of k v f stamp) ≡ flag_refusal
   unfolding refusal_of bad_flag
@@ -69,29 +69,53 @@ module _ (k v : List ℕ) (stamp : Stamp) where
       (λ l. flag_kept s 255 (omega arith) ∙ sym (flag_kept s f (omega arith)))
 
 -- ---- messages that are refused alike
-module _ (m o : Message) (n : ℕ) (mn : message_refusal m ≡ n) (on : message_refusal o ≡ n) (z : eqb n 0 ≡ false) where
-  writes_alike : (out : List ℕ) (a : Wrote) (after : List ℕ) → Writes m out a after → Writes o out a after
+module _ (m o : Message) (out : List ℕ) where
+  -- what writing them answers and leaves
+  record Alike : Type 0 where
+    pub answer : write_answer (message_refusal m) (frame_of m) out ≡ write_answer (message_refusal o) (frame_of o) out
+    pub buffer : after_write (message_refusal m) (frame_of m) out ≡ after_write (message_refusal o) (frame_of o) out
+
+  refused_alike : (n : ℕ) → message_refusal m ≡ n → message_refusal o ≡ n → eqb n 0 ≡ false → Alike
   unfolding write_refusal write_answer after_write
-  writes_alike out a after w = record {
-    answer = rw (on, z, z) (rw (mn, z, z) at w.answer);
-    buffer = rw (on, z, z) (rw (mn, z, z) at w.buffer);
-  }
+  refused_alike n mn on z = record { answer = rw (mn, on, z, z); buffer = rw (mn, on, z, z) }
 
-module _ (out : List ℕ) (a : Wrote) (after : List ℕ) where
-  pub writes_flag : (k v : List ℕ) (stamp : Stamp) (f b : ℕ) → b ≡ byte_of f → Writes (repl (entry_of k v b stamp)) out a after
-      → Writes (repl (entry_of k v f stamp)) out a after
-  writes_flag k v stamp f b e =
-      either (λ x. Writes (repl (entry_of k v x stamp)) out a after → Writes (repl (entry_of k v f stamp)) out a after) f b e (λ w. w)
-      (λ l. writes_alike (repl (entry_of k v 255 stamp)) (repl (entry_of k v f stamp)) (flag_refusal k v stamp)
-      (repl_refused k v stamp 255 (omega arith)) (repl_refused k v stamp f (omega arith)) (not_accepted k v stamp) out a after)
+same_alike : (m : Message) (out : List ℕ) → Alike m m out
+same_alike m out = record { answer = refl; buffer = refl }
 
-  err_refused : (n : ℕ) → 256 ≤ n → message_refusal (err n) ≡ 17
+module _ (k v : List ℕ) (stamp : Stamp) (f b : ℕ) (out : List ℕ) (is : b ≡ byte_of f) where
+  repl_alike : Alike (repl (entry_of k v b stamp)) (repl (entry_of k v f stamp)) out
+  repl_alike =
+      either (λ x. Alike (repl (entry_of k v x stamp)) (repl (entry_of k v f stamp)) out) f b is (same_alike (repl (entry_of k v f stamp)) out)
+      (λ l. refused_alike (repl (entry_of k v 255 stamp)) (repl (entry_of k v f stamp)) out (flag_refusal k v stamp)
+      (repl_refused k v stamp 255 (omega arith)) (repl_refused k v stamp f (omega arith)) (not_accepted k v stamp))
+
+  pub repl_told : (a : Result ℕ Refusal)
+      → answer_of a ≡ write_answer (message_refusal (repl (entry_of k v b stamp))) (frame_of (repl (entry_of k v b stamp))) out
+      → packed (refusal_number a) (count_in a) ≡ write_word (repl (entry_of k v f stamp)) out
+  repl_told a h = wrote_told (repl (entry_of k v f stamp)) out a (h ∙ repl_alike.answer)
+
+  pub repl_left : (after : List ℕ) → after ≡ write_bytes (repl (entry_of k v b stamp)) out → after ≡ write_bytes (repl (entry_of k v f stamp)) out
+  repl_left after h = h ∙ repl_alike.buffer
+
+-- ---- an ERR number: 0 for one that no byte holds
+module _ (n b : ℕ) (out : List ℕ) (is : b ≡ cond (leb 256 n) 0 n) where
+  err_refused : 256 ≤ n → message_refusal (err n) ≡ 17
   unfolding message_refusal time_fault key_fault value_fault argument_fault
-  err_refused n h = rw (lt-ltb 255 n (omega arith), or-true (eqb n 0))
+  err_refused h = rw (lt-ltb 255 n (omega arith), or-true (eqb n 0))
 
   zero_refused : message_refusal (err 0) ≡ 17
   unfolding message_refusal time_fault key_fault value_fault argument_fault
   zero_refused = refl
 
-  pub writes_number : (n : ℕ) → 256 ≤ n → Writes (err 0) out a after → Writes (err n) out a after
-  writes_number n h = writes_alike (err 0) (err n) 17 zero_refused (err_refused n h) refl out a after
+  err_alike : Alike (err b) (err n) out
+  err_alike = elim (test (leb 256 n)) [
+    | inl l ↦ rw (rw l at is) (refused_alike (err 0) (err n) out 17 zero_refused (err_refused (leb-true 256 n l)) refl)
+    | inr l ↦ rw (rw l at is) (same_alike (err n) out)
+  ]
+
+  pub err_told : (a : Result ℕ Refusal) → answer_of a ≡ write_answer (message_refusal (err b)) (frame_of (err b)) out
+      → packed (refusal_number a) (count_in a) ≡ write_word (err n) out
+  err_told a h = wrote_told (err n) out a (h ∙ err_alike.answer)
+
+  pub err_left : (after : List ℕ) → after ≡ write_bytes (err b) out → after ≡ write_bytes (err n) out
+  err_left after h = h ∙ err_alike.buffer

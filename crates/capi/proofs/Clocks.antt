@@ -1,62 +1,31 @@
 -- When words are a clock, the clock's layout, and what a refusal leaves.
-use mathlib.Core.Path.{◌≡◌, refl, sym, ap, ◌∙◌}
+use mathlib.Core.Path.{◌≡◌, refl, ap, ◌∙◌}
 use mathlib.Core.Logic.{inl, inr}
-use mathlib.Core.Bool.{true, false, ◌&&◌}
-use mathlib.Core.List.{List, [], ◌∷◌, ◌++◌}
-use Prim.Native.Nat.{ℕ, ◌^◌, ◌≤◌, ◌<◌}
+use mathlib.Core.Bool.{true, false}
+use mathlib.Core.List.{List, [], ◌∷◌}
+use Prim.Native.Nat.{ℕ, ◌^◌}
+use Rattle.std.specs.Prelude.{Some, None, Result, Ok, Err}
 use native.Mathlib.Omega.{arith}
 use lib.ListN.{length, drop, drop_of_length-le}
-use lib.Dec.{ltb, eqb}
-use borrow.Author.Tests.{lt-ltb, le-ltb, eq-eqb, ne_eqb, ltb-true, eqb-true}
-use Rattle.wire.proofs.Tests.{test, and-true}
+use borrow.Author.Tests.{lt-ltb, le-ltb, eqb-true}
+use Rattle.wire.proofs.Tests.{test, never}
+use Rattle.std.proofs.lemmas.Bool.Decides.{nat_tests}
+use Rattle.entry.specs.declared.Refusal.{Refusal}
+use Rattle.entry.specs.declared.Stamp.{Stamp}
+use Rattle.entry.specs.Acceptance.{refusal_number}
 use Rattle.clock.specs.declared.Clock.{Clock}
 use Rattle.clock.specs.Clock.{Stepped, next, refused, fresh_clock, send_step, receive_step}
-use Rattle.clock.specs.Answer.{given, clock_after, step_refusal_of}
-use Rattle.capi_words.specs.Result.{packed}
+use Rattle.clock.specs.Answer.{given, send_meaning, clock_after, step_refusal_of}
+use Rattle.frame.specs.Writing.{write_refusal, after_write}
 use Rattle.capi_words.specs.Words.{word}
-use Rattle.capi.specs.Words.{clock_words, is_clock, clock_of}
-use Rattle.capi.specs.Clock.{step_refusal, step_words, send_refusal}
+use Rattle.capi.specs.Words.{clock_words, is_clock, clock_of, clock_in}
+use Rattle.capi.specs.Clock.{step_refusal, step_words}
 use Rattle.capi.specs.Meaning.{ClockLayout, ClockWordsAre, StepKeeps, RefusedClock}
 use Rattle.capi_words.proofs.Fronts.{front_kept}
 
-module _ (w : List ℕ) where
-  pub no_clock_length : (length w ≡ 4 → ⊥) → false ≡ is_clock w
-  unfolding is_clock
-  no_clock_length h = rw (ne_eqb (length w) 4 h)
-
-  module _ (n : length w ≡ 4) where
-    pub no_clock_logical : 65536 ≤ word w 1 → false ≡ is_clock w
-    unfolding is_clock
-    no_clock_logical h = rw (eq-eqb (length w) 4 n, le-ltb (word w 1) (2 ^ 16) h)
-
-    module _ (l : word w 1 < 65536) where
-      pub no_clock_node : 256 ≤ word w 2 → false ≡ is_clock w
-      unfolding is_clock
-      no_clock_node h = rw (eq-eqb (length w) 4 n, lt-ltb (word w 1) (2 ^ 16) l, le-ltb (word w 2) (2 ^ 8) h)
-
-      pub clock_skew : word w 2 < 256 → ltb (word w 3) 4294967296 ≡ is_clock w
-      unfolding is_clock
-      clock_skew h = rw (eq-eqb (length w) 4 n, lt-ltb (word w 1) (2 ^ 16) l, lt-ltb (word w 2) (2 ^ 8) h)
-
--- what holds of a clock's words
-pub record ClockParts (w : List ℕ) : Type 0 where
-  pub size : length w ≡ 4
-  pub logical : word w 1 < 2 ^ 16
-  pub node : word w 2 < 2 ^ 8
-  pub skew : word w 3 < 2 ^ 32
-
-pub clock_parts : (w : List ℕ) → is_clock w ≡ true → ClockParts w
+clock_size : (w : List ℕ) → is_clock w ≡ true → length w ≡ 4
 unfolding is_clock
-clock_parts w h =
-    let a = and-true (eqb (length w) 4 && ltb (word w 1) (2 ^ 16) && ltb (word w 2) (2 ^ 8)) (ltb (word w 3) (2 ^ 32)) h in
-    let b = and-true (eqb (length w) 4 && ltb (word w 1) (2 ^ 16)) (ltb (word w 2) (2 ^ 8)) a.0 in
-    let d = and-true (eqb (length w) 4) (ltb (word w 1) (2 ^ 16)) b.0 in
-    record {
-      size = eqb-true (length w) 4 d.0;
-      logical = ltb-true (word w 1) (2 ^ 16) d.1;
-      node = ltb-true (word w 2) (2 ^ 8) b.1;
-      skew = ltb-true (word w 3) (2 ^ 32) a.1;
-    }
+clock_size w h = eqb-true (length w) 4 (grind (arith, nat_tests))
 
 four_words : (w : List ℕ) → length w ≡ 4 → word w 0 ∷ word w 1 ∷ word w 2 ∷ word w 3 ∷ [] ≡ w
 four_words [] h = absurd (omega arith)
@@ -68,29 +37,37 @@ four_words (a ∷ b ∷ c ∷ d ∷ e ∷ w) h = absurd (omega arith)
 
 pub clock_layout : ClockLayout
 unfolding clock_of
-clock_layout = record { back = λ c. refl; same = λ w h. four_words w (clock_parts w h).size }
+clock_layout = record { back = λ c. refl; same = λ w h. four_words w (clock_size w h) }
 
 pub clock_words_are : ClockWordsAre
-clock_words_are c r = sym (clock_skew (clock_words c) refl r.logical r.node) ∙ lt-ltb c.skew (2 ^ 32) r.skew
+unfolding is_clock
+clock_words_are c r = rw (lt-ltb c.logical (2 ^ 16) r.logical, lt-ltb c.node (2 ^ 8) r.node, lt-ltb c.skew (2 ^ 32) r.skew)
 
 -- ---- a step on words
-pub given_refusal : (s : Stepped) → send_refusal (given s) ≡ step_refusal_of s
-given_refusal (next d) = refl
-given_refusal (refused n) = refl
+module _ (w : List ℕ) where
+  pub no_clock : None ≡ clock_in w → is_clock w ≡ false
+  unfolding clock_in
+  no_clock e = elim (test (is_clock w)) [ inl t ↦ (let q = rw t at e in never (cc)) | inr f ↦ f ]
 
-module _ (step : Clock → Stepped) (w : List ℕ) (r : ℕ) where
-  pub step_no_clock : is_clock w ≡ false → r ≡ packed 17 0 → (r ≡ packed (step_refusal step w) 0) × (w ≡ step_words step w)
-  unfolding step_refusal step_words
-  step_no_clock f e = (rw f e, rw f)
+  pub held_clock : (c : Clock) → Some c ≡ clock_in w → (is_clock w ≡ true) × (c ≡ clock_of w)
+  unfolding clock_in
+  held_clock c e = elim (test (is_clock w)) [ inl t ↦ (let q = rw t at e in (t, cc)) | inr f ↦ (let q = rw f at e in never (cc)) ]
 
-  pub step_clock : (c d : Clock) (n : ℕ) (out : List ℕ) → is_clock w ≡ true → c ≡ clock_of w → d ≡ clock_after c (step c) → n ≡ step_refusal_of (step c)
-      → r ≡ packed n 0 → out ≡ clock_words d ++ drop 4 w → (r ≡ packed (step_refusal step w) 0) × (out ≡ step_words step w)
-  unfolding step_refusal step_words
-  step_clock c d n out t ce de ne re oe =
-      let end : drop 4 w ≡ [] = drop_of_length-le w {i = 4} (omega (arith, (clock_parts w t).size)) in (
-        rw t (re ∙ ap (λ (m : ℕ). packed m 0) (ne ∙ ap (λ (x : Clock). step_refusal_of (step x)) ce)),
-        rw t (oe ∙ ap (λ (l : List ℕ). clock_words d ++ l) end ∙ ap clock_words (de ∙ ap (λ (x : Clock). clock_after x (step x)) ce)),
-      )
+  pub put_clock : (d : Clock) → is_clock w ≡ true → after_write 0 (clock_words d) w ≡ clock_words d
+  unfolding write_refusal after_write
+  put_clock d t =
+      let n = clock_size w t in
+      let end : drop 4 w ≡ [] = drop_of_length-le w {i = 4} (omega (arith, n)) in
+      rw (le-ltb (length w) 4 (omega (arith, n)), end)
+
+pub given_refusal : (r : Result Stamp Refusal) (s : Stepped) → send_meaning r ≡ given s → refusal_number r ≡ step_refusal_of s
+given_refusal (Ok t) (next d) e = refl
+given_refusal (Ok t) (refused n) e = never (cc)
+given_refusal (Err r) (next d) e = never (cc)
+given_refusal (Err r) (refused n) e = cc
+
+-- what a step's answers are found by
+pub ruleset step_rules = (no_clock, held_clock, put_clock, given_refusal)
 
 -- ---- a refused step
 same_clock : (c : Clock) (s : Stepped) → (step_refusal_of s ≡ 0 → ⊥) → clock_after c s ≡ c

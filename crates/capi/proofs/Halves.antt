@@ -5,25 +5,25 @@ use mathlib.Core.Bool.{true, not, ◌||◌}
 use mathlib.Core.List.{List}
 use mathlib.Core.Option.{Option, none, some}
 use Prim.Native.Nat.{ℕ, ◌≤◌}
+use Rattle.std.specs.Prelude.{Result, Ok, Err}
 use native.Mathlib.Omega.{arith}
 use lib.ListN.{length}
 use lib.Dec.{leb, ltb, eqb}
 use borrow.Author.Tests.{ltb-false, eqb-true}
 use Rattle.wire.proofs.Tests.{test}
+use Rattle.entry.specs.declared.Refusal.{Refusal}
 use Rattle.entry.specs.declared.Refusal.TheVariants as refusal
-use Rattle.entry.specs.Entry.{Entry, bad_time, beats, refusal_of}
+use Rattle.entry.specs.Entry.{Entry, beats, refusal_of}
 use Rattle.clock.specs.declared.Clock.{Clock}
 use Rattle.clock.specs.Clock.{Stepped, next, refused, send_step, receive_step}
 use Rattle.clock.proofs.Steps.{StepNumbered, step_numbered, send_numbered, receive_numbered}
-use Rattle.frame.specs.declared.answer.Read.{Read}
-use Rattle.frame.specs.declared.answer.Read.TheVariants as read
+use Rattle.frame.specs.declared.answer.Message.{Message as Located}
 use Rattle.frame.specs.Message.{Message, time_fault, key_fault, value_fault, argument_fault, message_refusal}
 use Rattle.frame.specs.Layout.{frame_of}
 use Rattle.frame.specs.Reading.{read_answer}
 use Rattle.frame.specs.Writing.{write_refusal, write_answer}
 use Rattle.image.specs.Layout.{most_slots, slot_start}
 use Rattle.image.specs.Image.{slots_of, used_of, line_of, entries_of, sound}
-use Rattle.image.proofs.ImageLaws.{sound_is, used_is}
 use Rattle.store.specs.Held.{put, find, below_line}
 use Rattle.store.specs.Answer as offering
 use Rattle.store.specs.Create.{create_refusal}
@@ -31,10 +31,6 @@ use Rattle.store.specs.Lookup as looking
 use Rattle.store.specs.Lookup.{lookup_answer}
 use Rattle.store.specs.Listing.{Listing, listing_for, entry_answer}
 use Rattle.store.specs.Offer.{told, offer_answer}
-use Rattle.store.specs.Merge.{merged_entries, merge_answer}
-use Rattle.store.specs.Purge.{purge_answer}
-use Rattle.store.proofs.Seeking.{passed_most}
-use Rattle.store.proofs.Purging.{remaining-length}
 use Rattle.node.specs.Handler.{handled}
 use Rattle.node.proofs.Telling.{AnswerNumbered, FindingNumbered, offer_numbered, lookup_numbered, reply_reads_back, reply_at_most_600}
 use Rattle.capi_words.specs.Result.{packed}
@@ -47,6 +43,7 @@ use Rattle.capi.specs.Store.{store_refusal, store_number, look_refusal, look_num
 use Rattle.capi.specs.Handle.{handle_refusal, handle_length}
 use Rattle.capi.specs.Meaning.{ResultsTakenApart}
 use Rattle.capi.proofs.Frames.{writes_at_most_600}
+use Rattle.capi.proofs.Stores.{merge_few, purge_few}
 
 -- ---- what is told is 0 or a number
 -- a step of the clock
@@ -56,9 +53,9 @@ tells_stepped step w (next d) e n = tells_both (is_clock w) _ 17 (rw e tells_non
 tells_stepped step w (refused k) e n = tells_both (is_clock w) _ 17 (rw e (inr (step_numbered k n))) (tells refusal.BadArgument)
 
 -- a frame that is read, and a message that is written
-tells_read : (r : Read) → Told (read_refusal r)
-tells_read (read.Message m) = tells_none
-tells_read (read.Refused r) = tells r
+tells_read : (r : Result Located Refusal) → Told (read_refusal r)
+tells_read (Ok m) = tells_none
+tells_read (Err r) = tells r
 
 tells_message : (m : Message) → Told (message_refusal m)
 unfolding message_refusal
@@ -132,33 +129,6 @@ offer_number store e =
     (both P (not (eqb (refusal_of e) 0)) _ _ (omega arith)
     (both P (below_line (line_of store) (entries_of store) e) _ _ (omega arith)
     (both P (ltb (slots_of store) (length (put e (entries_of store)))) _ _ (omega arith) (told-number e (find e.key (entries_of store))))))
-
--- and no number of entries is above the most slots
-abbrev pub Few : offering.Answer → Type 0
-Few a = Told (store_refusal a) × (store_number a ≤ most_slots)
-
-held_few : (s : List ℕ) → sound s ≡ true → length (entries_of s) ≤ most_slots
-held_few s h = let k = sound_is s h in omega (arith, used_is s, k.room, k.most)
-
-pub merge_few : (receiver giver : List ℕ) → Few (merge_answer receiver giver)
-unfolding merge_answer
-merge_few receiver giver =
-    both Few (not (sound receiver)) _ _ (tells refusal.BadStore, omega arith)
-    (elim (test (sound giver)) [
-      | inl h ↦ rw h (both Few (not (eqb (line_of receiver) (line_of giver))) _ _ (tells refusal.UnequalLines, omega arith)
-          (both Few (ltb (slots_of receiver) (length (merged_entries receiver giver))) _ _ (tells refusal.StoreFull, omega arith)
-          (tells_none, omega (arith, passed_most (line_of receiver) (entries_of receiver) (entries_of giver), held_few giver h))))
-      | inr h ↦ rw h (tells refusal.BadStore, omega arith)
-    ])
-
-pub purge_few : (store : List ℕ) (line : ℕ) → Few (purge_answer store line)
-unfolding purge_answer
-purge_few store line = elim (test (sound store)) [
-  | inl h ↦ rw h (both Few (bad_time line) _ _ (tells refusal.BadTime, omega arith)
-      (both Few (ltb line (line_of store)) _ _ (tells refusal.LowerLine, omega arith)
-      (tells_none, omega (arith, remaining-length line (entries_of store), held_few store h))))
-  | inr h ↦ rw h (tells refusal.BadStore, omega arith)
-]
 
 tells_line : (store : List ℕ) → Told (line_refusal store)
 tells_line store = tells_both (sound store) 0 5 tells_none (tells refusal.BadStore)

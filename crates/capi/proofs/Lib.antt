@@ -5,3 +5,4 @@ pub mod Stores
 pub mod Places
 pub mod Handles
 pub mod Halves
+pub mod Rules

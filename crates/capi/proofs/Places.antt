@@ -4,6 +4,8 @@ use mathlib.Core.Bool.{true}
 use mathlib.Core.List.{List}
 use mathlib.Core.Option.{some, some-injective}
 use Prim.Native.Nat.{ℕ}
+use Rattle.std.specs.Prelude.{Result, Ok, Err}
+use Rattle.entry.specs.declared.Refusal.{Refusal}
 use Rattle.wire.specs.Fill.{field}
 use Rattle.wire.proofs.Tests.{never}
 use Rattle.entry.specs.Entry.{Entry, entry_of}
@@ -15,9 +17,7 @@ use Rattle.store.specs.Listing.{nth, listing_for, entry_answer}
 use Rattle.store.proofs.Looking.{value_stands, no_value}
 use Rattle.store.proofs.Listings.{entry_stands, each_listed}
 use Rattle.frame.specs.declared.answer.Message.{Message as Located}
-use Rattle.frame.specs.declared.answer.Message.TheVariants.{Put, Get, Del, Repl, Ok, Value, NotFound, Err}
-use Rattle.frame.specs.declared.answer.Read.{Read}
-use Rattle.frame.specs.declared.answer.Read.TheVariants as read
+use Rattle.frame.specs.declared.answer.Message.TheVariants.{Put, Get, Del, Repl, Ok as OkMessage, Value, NotFound, Err as ErrMessage}
 use Rattle.frame.specs.Message.{Message, key_of, value_of}
 use Rattle.frame.specs.Reading.{message, message_in, meaning, read_answer, read_frame}
 use Rattle.capi.specs.Frame.{field_words, read_words}
@@ -53,31 +53,31 @@ entry_places = record {
 -- ---- the key and the value in a frame
 key_in_lem : (s : List ℕ) (l : Located) → part_at 1 (field_words l) s ≡ key_of (message_in s l)
 unfolding field
-key_in_lem s (Put ka kl va vl) = refl
-key_in_lem s (Get ka kl) = refl
-key_in_lem s (Del ka kl) = refl
-key_in_lem s (Repl ka kl va vl f stamp) = refl
-key_in_lem s Ok = refl
-key_in_lem s (Value va vl) = refl
+key_in_lem s (Put k v) = refl
+key_in_lem s (Get k) = refl
+key_in_lem s (Del k) = refl
+key_in_lem s (Repl e) = refl
+key_in_lem s OkMessage = refl
+key_in_lem s (Value v) = refl
 key_in_lem s NotFound = refl
-key_in_lem s (Err n) = refl
+key_in_lem s (ErrMessage n) = refl
 
 value_in_lem : (s : List ℕ) (l : Located) → part_at 3 (field_words l) s ≡ value_of (message_in s l)
 unfolding field
-value_in_lem s (Put ka kl va vl) = refl
-value_in_lem s (Get ka kl) = refl
-value_in_lem s (Del ka kl) = refl
-value_in_lem s (Repl ka kl va vl f stamp) = refl
-value_in_lem s Ok = refl
-value_in_lem s (Value va vl) = refl
+value_in_lem s (Put k v) = refl
+value_in_lem s (Get k) = refl
+value_in_lem s (Del k) = refl
+value_in_lem s (Repl e) = refl
+value_in_lem s OkMessage = refl
+value_in_lem s (Value v) = refl
 value_in_lem s NotFound = refl
-value_in_lem s (Err n) = refl
+value_in_lem s (ErrMessage n) = refl
 
 -- what holds of the parts of a message that was read
 part_in : (i : ℕ) (f : Message → List ℕ) (s : List ℕ) (m : Message) → ((l : Located) → part_at i (field_words l) s ≡ f (message_in s l))
-    → (r : Read) → meaning s r ≡ message m → part_at i (read_words r) s ≡ f m
-part_in i f s m law (read.Message l) h = let e : message_in s l ≡ m = cc in law l ∙ ap f e
-part_in i f s m law (read.Refused r) h = never (cc)
+    → (r : Result Located Refusal) → meaning s r ≡ message m → part_at i (read_words r) s ≡ f m
+part_in i f s m law (Ok l) h = let e : message_in s l ≡ m = cc in law l ∙ ap f e
+part_in i f s m law (Err r) h = never (cc)
 
 pub field-places : FieldPlaces
 unfolding read_frame

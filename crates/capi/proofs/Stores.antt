@@ -1,67 +1,73 @@
 -- The answers of the store's functions.
-use mathlib.Core.Path.{◌≡◌, refl, ◌∙◌}
-use mathlib.Core.Bool.{true, false}
-use mathlib.Core.List.{List, []}
-use Prim.Native.Nat.{ℕ}
+use mathlib.Core.Path.{◌≡◌, refl, ap, ◌∙◌}
+use mathlib.Core.Logic.{inl, inr}
+use mathlib.Core.Bool.{true, not}
+use mathlib.Core.List.{List}
+use Prim.Native.Nat.{ℕ, ◌≤◌}
 use native.Mathlib.Omega.{arith}
 use lib.ListN.{length}
+use lib.Dec.{ltb, eqb}
+use Rattle.std.specs.Prelude.{Result, Ok, Err}
+use Rattle.std.proofs.Math.Nat.{min-eq_left}
+use Rattle.wire.proofs.Tests.{test}
 use Rattle.entry.specs.declared.Refusal.{Refusal}
-use Rattle.entry.specs.declared.Stamp.{Stamp}
-use Rattle.entry.specs.Refusal.{number}
-use Rattle.image.specs.Image.{sound}
-use Rattle.store.specs.Lookup.{Finding, value, deleted, never, refused, lookup_answer}
-use Rattle.store.specs.declared.Listed.{Listed}
-use Rattle.store.specs.declared.Listed.TheVariants as listed
-use Rattle.store.specs.Listing.{listing_of, entry_answer}
-use Rattle.frame.specs.Writing.{write_refusal, after_write}
-use Rattle.capi_words.specs.Result.{packed}
-use Rattle.capi.specs.Frame.{repl_words}
-use Rattle.capi.specs.Store.{look_refusal, look_number, place_words, place_refusal, found_number, lookup_word, list_refusal, list_words, line_refusal, line_words}
-use Rattle.capi_words.proofs.Fronts.{Puts, not_none, none, front_refused, front_refused_by}
+use Rattle.entry.specs.declared.Refusal.TheVariants as refusal
+use Rattle.entry.specs.Acceptance.{refusal_number}
+use Rattle.entry.specs.Entry.{bad_time}
+use Rattle.image.specs.Layout.{most_slots}
+use Rattle.image.specs.Image.{slots_of, line_of, entries_of, sound}
+use Rattle.image.proofs.ImageLaws.{sound_is, used_is}
+use Rattle.store.specs.Answer as offering
+use Rattle.store.specs.Answer.{merge_answer_of, purge_answer_of}
+use Rattle.store.specs.Merge.{merged_entries, merge_answer}
+use Rattle.store.specs.Purge.{purge_answer}
+use Rattle.store.proofs.Seeking.{passed_most}
+use Rattle.store.proofs.Purging.{remaining-length}
+use Rattle.capi_words.specs.Result.{packed, count_in}
+use Rattle.capi_words.specs.Meaning.{Told}
+use Rattle.capi_words.proofs.Halves.{tells_none, tells, both}
+use Rattle.capi.specs.Store.{store_refusal, store_number, store_word}
 
-pub two_words : (f : Finding) → length (place_words f) ≡ 2
-two_words (value at len) = refl
-two_words deleted = refl
-two_words never = refl
-two_words (refused n) = refl
+-- no number of entries is above the most slots
+abbrev pub Few : offering.Answer → Type 0
+Few a = Told (store_refusal a) × (store_number a ≤ most_slots)
 
-module _ (store key place : List ℕ) (r : ℕ) (after : List ℕ) where
-  abbrev front : List ℕ
-  front = place_words (lookup_answer store key)
+held_few : (s : List ℕ) → sound s ≡ true → length (entries_of s) ≤ most_slots
+held_few s h = let k = sound_is s h in omega (arith, used_is s, k.room, k.most)
 
-  abbrev own : ℕ
-  own = look_refusal (lookup_answer store key)
+pub merge_few : (receiver giver : List ℕ) → Few (merge_answer receiver giver)
+unfolding merge_answer
+merge_few receiver giver =
+    both Few (not (sound receiver)) _ _ (tells refusal.BadStore, omega arith)
+    (elim (test (sound giver)) [
+      | inl h ↦ rw h (both Few (not (eqb (line_of receiver) (line_of giver))) _ _ (tells refusal.UnequalLines, omega arith)
+          (both Few (ltb (slots_of receiver) (length (merged_entries receiver giver))) _ _ (tells refusal.StoreFull, omega arith)
+          (tells_none, omega (arith, passed_most (line_of receiver) (entries_of receiver) (entries_of giver), held_few giver h))))
+      | inr h ↦ rw h (tells refusal.BadStore, omega arith)
+    ])
 
-  pub look_refused : Puts own front place r after → (r ≡ 0 → ⊥) → (r ≡ lookup_word store key place) × (after ≡ after_write own front place)
-  unfolding place_refusal found_number
-  look_refused p h = (rw (not_none (write_refusal own front place) r p.told h) p.told, p.left)
+pub purge_few : (store : List ℕ) (line : ℕ) → Few (purge_answer store line)
+unfolding purge_answer
+purge_few store line = elim (test (sound store)) [
+  | inl h ↦ rw h (both Few (bad_time line) _ _ (tells refusal.BadTime, omega arith)
+      (both Few (ltb line (line_of store)) _ _ (tells refusal.LowerLine, omega arith)
+      (tells_none, omega (arith, remaining-length line (entries_of store), held_few store h))))
+  | inr h ↦ rw h (tells refusal.BadStore, omega arith)
+]
 
-  pub look_found : Puts own front place 0 after → r ≡ look_number (lookup_answer store key)
-      → (r ≡ lookup_word store key place) × (after ≡ after_write own front place)
-  unfolding place_refusal found_number
-  look_found p e = (rw (none (write_refusal own front place) 0 p.told refl) (e ∙ omega arith), p.left)
+-- so that none that is counted is cut
+counted_merge : (a : Result ℕ Refusal) → store_number (merge_answer_of a) ≤ most_slots → packed (refusal_number a) (count_in a) ≡ store_word (merge_answer_of a)
+counted_merge (Ok n) l = ap (packed 0) (min-eq_left (omega arith))
+counted_merge (Err r) l = refl
 
--- ---- an entry that is asked for by its number
-module _ (s : List ℕ) (i : ℕ) (lent : List ℕ) (o : Listed) (is : listing_of o ≡ entry_answer s i) where
-  -- the result r, and what is left of the words
-  abbrev EntryPut : ℕ → List ℕ → Type 0
-  EntryPut r after = Puts (list_refusal (entry_answer s i)) (list_words (entry_answer s i)) lent r after
+counted_purge : (a : Result ℕ Refusal) → store_number (purge_answer_of a) ≤ most_slots → packed (refusal_number a) (count_in a) ≡ store_word (purge_answer_of a)
+counted_purge (Ok n) l = ap (packed 0) (min-eq_left (omega arith))
+counted_purge (Err r) l = refl
 
-  pub entry_refused : (why : Refusal) → o ≡ listed.Refused why → (r : ℕ) → r ≡ packed (number why) 0 → EntryPut r lent
-  entry_refused why e r h = rw (← is, e) (front_refused (number why) [] lent r why refl h)
+pub merge_told : (receiver giver : List ℕ) (a : Result ℕ Refusal) → merge_answer_of a ≡ merge_answer receiver giver
+    → packed (refusal_number a) (count_in a) ≡ store_word (merge_answer receiver giver)
+merge_told receiver giver a e = counted_merge a (rw e (merge_few receiver giver).1) ∙ ap store_word e
 
-  pub entry_put : (ka kl va vl flag : ℕ) (stamp : Stamp) → o ≡ listed.Entry ka kl va vl flag stamp → (words : List ℕ)
-      → words ≡ repl_words ka kl va vl flag stamp
-      → (r : ℕ) (after : List ℕ) → Puts 0 words lent r after → EntryPut r after
-  entry_put ka kl va vl flag stamp e words w r after p = rw (← is, e) (rw w at p)
-
--- ---- the purge line
-module _ (s lent : List ℕ) where
-  abbrev LinePut : ℕ → List ℕ → Type 0
-  LinePut r after = Puts (line_refusal s) (line_words s) lent r after
-
-  pub line_unsound : sound s ≡ false → (r : ℕ) → r ≡ packed 5 0 → LinePut r lent
-  line_unsound h r e = rw h (front_refused_by 5 (line_words s) lent r refl e)
-
-  pub line-put : sound s ≡ true → (words : List ℕ) → words ≡ line_words s → (r : ℕ) (after : List ℕ) → Puts 0 words lent r after → LinePut r after
-  line-put h words w r after p = rw h (rw w at p)
+pub purge_told : (store : List ℕ) (line : ℕ) (a : Result ℕ Refusal) → purge_answer_of a ≡ purge_answer store line
+    → packed (refusal_number a) (count_in a) ≡ store_word (purge_answer store line)
+purge_told store line a e = counted_purge a (rw e (purge_few store line).1) ∙ ap store_word e

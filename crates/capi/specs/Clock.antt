@@ -2,7 +2,7 @@
 use Rattle.std.specs.Prelude.{ℕ, cond, List}
 use Rattle.clock.specs.declared.Clock.{Clock}
 use Rattle.clock.specs.Clock.{Stepped}
-use Rattle.clock.specs.Answer.{Given, stamp, refusal, clock_after, step_refusal_of}
+use Rattle.clock.specs.Answer.{clock_after, step_refusal_of}
 use Rattle.capi.specs.Words.{is_clock, clock_of, clock_words}
 
 -- the refusal of a step: 17 for words that are no clock, then the step's own, or 0 (R237)
@@ -12,8 +12,3 @@ step_refusal step w = cond (is_clock w) (step_refusal_of (step (clock_of w))) 17
 -- the words after it (R170, R245)
 unfoldable pub step_words : (Clock → Stepped) → List ℕ → List ℕ
 step_words step w = cond (is_clock w) (clock_words (clock_after (clock_of w) (step (clock_of w)))) w
-
--- the refusal in what a send gives, or 0
-abbrev pub send_refusal : Given → ℕ
-send_refusal (stamp s) = 0
-send_refusal (refusal n) = n

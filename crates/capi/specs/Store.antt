@@ -4,6 +4,7 @@ use Rattle.image.specs.Image.{line_of, sound}
 use Rattle.store.specs.Answer.{Answer, stored, replaced, kept, merged, purged, refused}
 use Rattle.store.specs.Lookup.{Finding, value, deleted, never, refused as not_looked, lookup_answer}
 use Rattle.store.specs.Listing.{Listing, entry, refused as not_listed}
+use Rattle.frame.specs.Reading.{span}
 use Rattle.frame.specs.Writing.{write_refusal}
 use Rattle.capi_words.specs.Result.{packed}
 use Rattle.capi.specs.Frame.{repl_words}
@@ -69,7 +70,7 @@ list_refusal (not_listed n) = n
 
 -- the entry as the ten words of a REPL, with places in the store (R243)
 abbrev pub list_words : Listing → List ℕ
-list_words (entry ka kl va vl flag stamp) = repl_words ka kl va vl flag stamp
+list_words (entry ka kl va vl flag stamp) = repl_words (record { key = span ka kl; value = span va vl; flag = flag; stamp = stamp })
 list_words (not_listed n) = []
 
 -- the refusal of a store whose purge line is asked for, or 0; and the line as one word (R267)

@@ -1,103 +1,71 @@
 // A clock as four words, and a message as ten.
-ghost use Rattle.std.specs.Prelude.{◌≡◌, true, ◌++◌, ◌≤◌, length, drop};
-ghost use Rattle.capi.specs.Words.{is_clock, clock_of, clock_words};
+ghost use Rattle.std.specs.Prelude.{◌≡◌};
+ghost use Rattle.capi.specs.Words.{clock_in, clock_words};
 ghost use Rattle.capi.specs.Frame.{part_words, repl_words, field_words};
 
-use capi_words::{BYTE_LIMIT, put_front};
 use clock::Clock;
-use entry::Stamp;
+use entry::EntryAt;
 use frame::Message;
+use wire::Span;
 
 const CLOCK_WORDS: usize = 4;
-// The words of 16 and 32 bits are below these.
-const HALF_LIMIT: u64 = 65_536;
 
-const WORD_LIMIT: u64 = 4_294_967_296;
-
-// Whether words are a clock.
-pub(crate) fn is_clock(words: &[u64]) -> bool
-    ensures { result ≡ is_clock words.now }
+// The clock that words stand for, if there are four and each fits its field.
+#[tactic(auto, using(std::proofs::lemmas::Bool::Decides::nat_tests), unfolding(crate::specs::Words::clock_in, crate::specs::Words::is_clock, crate::specs::Words::clock_of))]
+pub(crate) fn clock_of(words: &[u64]) -> Option<Clock>
+    ensures { result ≡ clock_in words.now }
 {
-    if words.len() != CLOCK_WORDS {
-        return false;
-    }
-    if HALF_LIMIT <= words[1] {
-        return false;
-    }
-    if BYTE_LIMIT <= words[2] {
-        return false;
-    }
-    words[3] < WORD_LIMIT
+    let [phys, logical, node, skew] = words else {
+        return None;
+    };
+    Some(Clock {
+        phys: *phys,
+        logical: u16::try_from(*logical).ok()?,
+        node: u8::try_from(*node).ok()?,
+        skew: u32::try_from(*skew).ok()?,
+    })
 }
 
-// The clock that words stand for.
-pub(crate) fn clock_of(words: &[u64]) -> Clock
-    requires { is_clock words.now ≡ true }
-    ensures { result ≡ clock_of words.now }
+// The words of a clock.
+pub(crate) fn clock_words(clock: Clock) -> [u64; CLOCK_WORDS]
+    ensures { result ≡ clock_words clock }
 {
-    Clock {
-        phys: words[0],
-        logical: words[1] as u16,
-        node: words[2] as u8,
-        skew: words[3] as u32,
-    }
-}
-
-// Puts a clock's words to the front of `out`.
-pub(crate) fn put_clock(out: &mut [u64], clock: Clock)
-    requires { 4 ≤ length out.old }
-    ensures { out.new ≡ clock_words clock ++ drop 4 out.old }
-{
-    let words = [
+    [
         clock.phys,
         clock.logical as u64,
         clock.node as u64,
         clock.skew as u64,
-    ];
-    put_front(out, &words);
+    ]
 }
 
 // The ten words of a REPL.
-pub(crate) fn repl_words(
-    key_at: usize,
-    key_len: usize,
-    value_at: usize,
-    value_len: usize,
-    flag: u8,
-    stamp: Stamp,
-) -> [u64; 10]
-    ensures { result ≡ repl_words key_at key_len value_at value_len flag stamp }
+pub(crate) fn repl_words(entry: EntryAt) -> [u64; 10]
+    ensures { result ≡ repl_words entry }
 {
     [
         4,
-        key_at as u64,
-        key_len as u64,
-        value_at as u64,
-        value_len as u64,
-        flag as u64,
-        stamp.phys,
-        stamp.logical as u64,
-        stamp.node as u64,
+        entry.key.at as u64,
+        entry.key.len as u64,
+        entry.value.at as u64,
+        entry.value.len as u64,
+        entry.flag as u64,
+        entry.stamp.phys,
+        entry.stamp.logical as u64,
+        entry.stamp.node as u64,
         0,
     ]
 }
 
 // The ten words of a message that has no more than a key and a value.
-fn part_words(
-    kind: u64,
-    key_at: usize,
-    key_len: usize,
-    value_at: usize,
-    value_len: usize,
-) -> [u64; 10]
-    ensures { result ≡ part_words kind key_at key_len value_at value_len }
+fn part_words(kind: u64, key: Span, value: Span) -> [u64; 10]
+    ensures { result ≡ part_words kind key value }
 {
     [
         kind,
-        key_at as u64,
-        key_len as u64,
-        value_at as u64,
-        value_len as u64,
+        key.at as u64,
+        key.len as u64,
+        value.at as u64,
+        value.len as u64,
         0,
         0,
         0,
@@ -110,32 +78,15 @@ fn part_words(
 pub(crate) fn field_words(message: Message) -> [u64; 10]
     ensures { result ≡ field_words message }
 {
+    let none = Span { at: 0, len: 0 };
     match message {
-        Message::Put {
-            key_at,
-            key_len,
-            value_at,
-            value_len,
-        } => part_words(1, key_at, key_len, value_at, value_len),
-        Message::Get { key_at, key_len } => part_words(2, key_at, key_len, 0, 0),
-        Message::Del { key_at, key_len } => part_words(3, key_at, key_len, 0, 0),
-        Message::Repl {
-            key_at,
-            key_len,
-            value_at,
-            value_len,
-            flag,
-            stamp,
-        } => repl_words(key_at, key_len, value_at, value_len, flag, stamp),
-        Message::Ok => [16, 0, 0, 0, 0, 0, 0, 0, 0, 0],
-        Message::Value {
-            value_at,
-            value_len,
-        } => part_words(17, 0, 0, value_at, value_len),
-        Message::NotFound => [18, 0, 0, 0, 0, 0, 0, 0, 0, 0],
-        Message::Err(number) => {
-            let n = number as u64;
-            [20, 0, 0, 0, 0, 0, 0, 0, 0, n]
-        }
+        Message::Put { key, value } => part_words(1, key, value),
+        Message::Get { key } => part_words(2, key, none),
+        Message::Del { key } => part_words(3, key, none),
+        Message::Repl(entry) => repl_words(entry),
+        Message::Ok => part_words(16, none, none),
+        Message::Value(value) => part_words(17, none, value),
+        Message::NotFound => part_words(18, none, none),
+        Message::Err(number) => [20, 0, 0, 0, 0, 0, 0, 0, 0, number as u64],
     }
 }

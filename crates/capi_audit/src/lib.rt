@@ -2,27 +2,16 @@
 // packs the answer.
 #![tactic(auto)]
 
-ghost use Rattle.std.specs.Prelude.{◌≡◌, ◌<◌};
-ghost use Rattle.deliveries.specs.List.{count_of, count_answer};
+ghost use Rattle.std.specs.Prelude.{◌≡◌, ◌≤◌};
+ghost use Rattle.deliveries.specs.List.{count_answer};
 ghost use Rattle.explain.specs.Explain.{answer_of, explain_answer, after_explain};
-ghost use Rattle.capi_audit.specs.Audit.{count_word, explained_word};
+ghost use Rattle.capi_audit.specs.Audit.{count_word, explained_given, explained_word};
 
-use capi_words::refused;
-use deliveries::Counted;
-use explain::Explained;
+use capi_words::counted;
+use entry::Refusal;
 
 // The winner's place where no delivery is of the key.
-const NO_DELIVERY: u32 = 65_535;
-
-fn counted(answer: Counted) -> u32
-    requires { count_word (count_of answer) < 4294967296 }
-    ensures { result ≡ count_word (count_of answer) }
-{
-    match answer {
-        Counted::Deliveries(n) => n as u32,
-        Counted::Refused(why) => refused(why),
-    }
-}
+const NO_DELIVERY: usize = 65_535;
 
 // How many deliveries a list has.
 #[unsafe(no_mangle)]
@@ -32,15 +21,11 @@ pub extern "C" fn sp_deliveries(list: &[u8]) -> u32
     counted(deliveries::count(list))
 }
 
-fn explained(answer: Explained) -> u32
-    requires { explained_word (answer_of answer) < 4294967296 }
+fn explained(answer: Result<Option<usize>, Refusal>) -> u32
+    requires { explained_given (answer_of answer) ≤ 65535 }
     ensures { result ≡ explained_word (answer_of answer) }
 {
-    match answer {
-        Explained::Winner(place) => place as u32,
-        Explained::NoDelivery => NO_DELIVERY,
-        Explained::Refused(why) => refused(why),
-    }
+    counted(answer.map(|winner| winner.unwrap_or(NO_DELIVERY)))
 }
 
 // Which delivery of a key is in force, and why each other one is not.

@@ -1,29 +1,29 @@
 -- The answers of the ring's functions.
-use mathlib.Core.Path.{◌≡◌, sym, ap, ◌∙◌}
+use mathlib.Core.Path.{◌≡◌, refl, ap, ◌∙◌}
 use mathlib.Core.Logic.{inl, inr}
-use mathlib.Core.Bool.{Bool, true, false, not, ◌||◌}
+use mathlib.Core.Bool.{true, false, not, ◌||◌, or-true}
 use mathlib.Core.List.{List, [], ◌∷◌, ◌++◌}
 use Prim.Native.Nat.{ℕ, ◌*◌, ◌≤◌, ◌<◌}
 use native.Mathlib.Omega.{arith}
 use native.Mathlib.Nat.{mul-le-mul}
 use lib.ListN.{length, drop, set}
 use lib.Dec.{leb, ltb}
-use borrow.Author.Tests.{le-leb, lt-leb, ltb-false, not-false}
+use borrow.Author.Tests.{le-leb, lt-leb, ltb-false}
 use Rattle.wire.proofs.Tests.{test, or-false}
 use Rattle.peers.specs.declared.PeerTable.{PeerTable}
 use Rattle.peers.specs.declared.Admission.{Admission}
 use Rattle.entry.specs.declared.Refusal.{Refusal}
 use Rattle.entry.specs.Refusal.{number}
-use Rattle.ring.specs.declared.KeyPosition.{KeyPosition}
-use Rattle.ring.specs.declared.KeyPosition.TheVariants.{Refused}
-use Rattle.ring.specs.Answer.{Answer, position_meaning}
+use Rattle.entry.specs.Acceptance.{refusal_number}
+use Rattle.std.specs.Prelude.{Result, Ok, Err}
+use Rattle.ring.specs.Answer.{Answer, meaning}
 use Rattle.ring.specs.Lists.{distinct}
 use Rattle.ring.specs.Build.{bad_arguments, build_answer}
 use Rattle.ring.specs.Owners.{owners_answer, owners_output}
-use Rattle.capi_words.specs.Result.{packed}
+use Rattle.capi_words.specs.Result.{packed, count_in}
 use Rattle.capi_cluster.specs.Words.{is_table, table_of}
 use Rattle.capi_words.proofs.Fronts.{Puts, front_refused}
-use Rattle.capi_cluster.specs.Ring.{refusal_in, given_in, admission_of, bad_form, owners_refusal, owners_bytes}
+use Rattle.capi_cluster.specs.Ring.{refusal_in, given_in, answer_word, admission_of, bad_form, owners_refusal, owners_bytes}
 
 -- a ring has at most 640 places
 pub built_most : (ids : List ℕ) (v : ℕ) (ring : List ℕ) → given_in (build_answer ids v ring) ≤ 10 * 64
@@ -48,9 +48,18 @@ set_first [] x y h e = absurd (omega arith)
 set_first (a ∷ lent) x y h e = rw e
 
 -- a key that has no position
-pub position_refused : (x : Answer) (lent : List ℕ) (r : ℕ) (a : KeyPosition) (why : Refusal) → a ≡ Refused why → position_meaning a ≡ x
+pub position_refused : (x : Answer) (lent : List ℕ) (r : ℕ) (why : Refusal) → meaning (Err why) ≡ x
     → r ≡ packed (number why) 0 → Puts (refusal_in x) (given_in x ∷ []) lent r lent
-position_refused x lent r a why e h = front_refused (refusal_in x) (given_in x ∷ []) lent r why (ap refusal_in (sym (ap position_meaning e) ∙ h))
+position_refused x lent r why h = front_refused (refusal_in x) (given_in x ∷ []) lent r why (ap refusal_in h)
+
+-- ---- what a result says
+pub said : (d : Result ℕ Refusal) → refusal_number d ≡ refusal_in (meaning d)
+said (Ok n) = refl
+said (Err r) = refl
+
+pub counted_word : (d : Result ℕ Refusal) → given_in (meaning d) < 65536 → packed (refusal_number d) (count_in d) ≡ answer_word (meaning d)
+counted_word (Ok n) h = omega arith
+counted_word (Err r) h = refl
 
 -- ---- the form of an owner walk's arguments
 module _ (a : ℕ) (w : List ℕ) where
@@ -58,13 +67,13 @@ module _ (a : ℕ) (w : List ℕ) where
   unfolding bad_form
   bad_admission h = rw (le-leb 2 a h)
 
-  pub form_by_table : a < 2 → (b : Bool) → b ≡ is_table w → not b ≡ bad_form a w
+  pub bad_words : is_table w ≡ false → true ≡ bad_form a w
   unfolding bad_form
-  form_by_table h b e = rw (lt-leb 2 a h, e)
+  bad_words h = rw (h, or-true (leb 2 a))
 
-  pub form_table : bad_form a w ≡ false → is_table w ≡ true
+  pub good_form : a < 2 → is_table w ≡ true → bad_form a w ≡ false
   unfolding bad_form
-  form_table h = not-false (is_table w) (or-false (leb 2 a) (not (is_table w)) h).1
+  good_form h e = rw (lt-leb 2 a h, e)
 
 module _ (ring w : List ℕ) (position a count : ℕ) (out : List ℕ) (r : ℕ) where
   -- the result and the output of an owner walk

@@ -1,64 +1,30 @@
 -- The words of a peer table, row by row.
 use mathlib.Core.Path.{◌≡◌, refl, sym, ap, ◌∙◌}
 use mathlib.Core.Logic.{inl, inr}
-use mathlib.Core.Bool.{true, false, ◌&&◌}
+use mathlib.Core.Bool.{true, false, ◌&&◌, and-false, true≢false}
 use mathlib.Core.List.Memᴰ.{append_left as left_in}
 use mathlib.Core.List.Memᴰ.{append_right as right-in}
 use mathlib.Core.List.Memᴰ.{head}
-use mathlib.Core.List.{List, [], ◌∷◌, ◌++◌, append-nil, Memᴰ}
+use mathlib.Core.List.{List, [], ◌∷◌, ◌++◌, Memᴰ}
 use Prim.Native.Nat.{ℕ, zero, suc, ◌+◌, ◌-◌, ◌*◌, ◌^◌, ◌≤◌, ◌<◌}
 use native.Mathlib.Omega.{arith}
 use native.Mathlib.Numerals.{add-one}
-use lib.ListN.{length, get_or, set, take, drop, length-take, length-append, length-drop, drop_of_length-le}
+use lib.ListN.{length, get_or, set, take, drop, length-append, length-drop, drop_of_length-le}
 use lib.Seq.{take-suc, take-suc-set, take_all, drop-cons, drop-set-lt}
 use lib.Dec.{ltb, eqb}
-use borrow.Author.Tests.{lt-ltb, le-ltb, eq-eqb, ne_eqb, ltb-true, eqb-true, eqb-false}
-use borrow.Rule.Slice.PartMut.{mid_of, put_mid}
+use borrow.Author.Tests.{lt-ltb, eq-eqb, ltb-true, eqb-true, eqb-false}
+use borrow.Rule.Slice.PartMut.{put_mid}
 use Rattle.wire.proofs.Tests.{test, and-true}
 use Rattle.wire.proofs.Writing.{Written}
-use Rattle.frame.specs.Writing.{after_write}
 use Rattle.frame.proofs.Buffers.{write_part}
 use Rattle.peers.specs.declared.Row.{Row}
 use Rattle.peers.specs.declared.PeerTable.{PeerTable}
 use Rattle.peers.specs.Event.{no_row}
 use Rattle.capi_words.specs.Words.{word}
-use Rattle.capi_words.proofs.Fronts.{front_room}
 use Rattle.capi_cluster.specs.Words.{row_words, rows_words, table_words, row_at, row_fits, row_of, rows_fit, rows_of, is_table, table_of}
 use Rattle.capi_cluster.specs.Meaning.{TableLayout, RowInRange, TableWordsAre}
 
 -- ---- whether a row fits
-module _ (k : ℕ) (w : List ℕ) where
-  pub unfit_id : 256 ≤ word w (row_at k) → false ≡ row_fits k w
-  unfolding row_fits
-  unfit_id h = rw (le-ltb (word w (row_at k)) (2 ^ 8) h)
-
-  module _ (i : word w (row_at k) < 256) where
-    pub unfit_address : 4294967296 ≤ word w (row_at k + 1) → false ≡ row_fits k w
-    unfolding row_fits
-    unfit_address h = rw (lt-ltb (word w (row_at k)) (2 ^ 8) i, le-ltb (word w (row_at k + 1)) (2 ^ 32) h)
-
-    module _ (a : word w (row_at k + 1) < 4294967296) where
-      pub unfit_port : 65536 ≤ word w (row_at k + 2) → false ≡ row_fits k w
-      unfolding row_fits
-      unfit_port h = rw (lt-ltb (word w (row_at k)) (2 ^ 8) i, lt-ltb (word w (row_at k + 1)) (2 ^ 32) a, le-ltb (word w (row_at k + 2)) (2 ^ 16) h)
-
-      module _ (p : word w (row_at k + 2) < 65536) where
-        pub unfit_state : 256 ≤ word w (row_at k + 3) → false ≡ row_fits k w
-        unfolding row_fits
-        unfit_state h =
-            let id = lt-ltb (word w (row_at k)) (2 ^ 8) i in
-            let address = lt-ltb (word w (row_at k + 1)) (2 ^ 32) a in
-            let port = lt-ltb (word w (row_at k + 2)) (2 ^ 16) p in
-            rw (id, address, port, le-ltb (word w (row_at k + 3)) (2 ^ 8) h)
-
-        pub fits_incarnation : word w (row_at k + 3) < 256 → ltb (word w (row_at k + 4)) 4294967296 ≡ row_fits k w
-        unfolding row_fits
-        fits_incarnation h =
-            let id = lt-ltb (word w (row_at k)) (2 ^ 8) i in
-            let address = lt-ltb (word w (row_at k + 1)) (2 ^ 32) a in
-            let port = lt-ltb (word w (row_at k + 2)) (2 ^ 16) p in
-            rw (id, address, port, lt-ltb (word w (row_at k + 3)) (2 ^ 8) h)
-
 -- what holds of a row's words
 pub record RowParts (k : ℕ) (w : List ℕ) : Type 0 where
   pub id : word w (row_at k) < 2 ^ 8
@@ -87,21 +53,10 @@ row_parts k w h =
       incarnation = ltb-true (word w (row_at k + 4)) (2 ^ 32) e.1;
     }
 
--- ---- all rows, from the last one on
-pub fit_next : (n : ℕ) (w : List ℕ) → 0 < n → row_fits (n - 1) w ≡ true → rows_fit n w ≡ rows_fit (n - 1) w
+-- ---- all rows
+pub fit_more : (w : List ℕ) (k : ℕ) → rows_fit k w ≡ true → row_fits k w ≡ true → rows_fit (k + 1) w ≡ true
 unfolding rows_fit
-fit_next zero w p h = absurd (omega arith)
-fit_next (suc n) w p h = let e : suc n - 1 ≡ n = omega arith in rw e (rw (rw e at h))
-
-pub fit_stop : (n : ℕ) (w : List ℕ) → 0 < n → row_fits (n - 1) w ≡ false → false ≡ rows_fit n w
-unfolding rows_fit
-fit_stop zero w p h = absurd (omega arith)
-fit_stop (suc n) w p h = let e : suc n - 1 ≡ n = omega arith in rw (rw e at h)
-
-pub fit_none : (n : ℕ) (w : List ℕ) → n ≤ 0 → true ≡ rows_fit n w
-unfolding rows_fit
-fit_none zero w h = refl
-fit_none (suc n) w h = absurd (omega arith)
+fit_more w k h e = rw (add-one k, e, h)
 
 pub fit_at : (n k : ℕ) (w : List ℕ) → rows_fit n w ≡ true → k < n → row_fits k w ≡ true
 unfolding rows_fit
@@ -113,15 +68,14 @@ fit_at (suc n) k w h l = elim (test (eqb k n)) [
 
 -- ---- a table
 module _ (w : List ℕ) where
-  pub no_table_length : (length w ≡ 61 → ⊥) → false ≡ is_table w
+  pub unfit_table : (k : ℕ) → k < 10 → row_fits k w ≡ false → is_table w ≡ false
   unfolding is_table
-  no_table_length h = rw (ne_eqb (length w) 61 h)
+  unfit_table k l e = elim (test (rows_fit 10 w)) [
+    | inl f ↦ absurd (true≢false (sym (fit_at 10 k w f l) ∙ e))
+    | inr f ↦ rw f (and-false (eqb (length w) 61 && ltb (word w 0) (2 ^ 8)))
+  ]
 
   module _ (n : length w ≡ 61) where
-    pub no_table_count : 256 ≤ word w 0 → false ≡ is_table w
-    unfolding is_table
-    no_table_count h = rw (eq-eqb (length w) 61 n, le-ltb (word w 0) (2 ^ 8) h)
-
     pub table_rows : word w 0 < 256 → rows_fit 10 w ≡ is_table w
     unfolding is_table
     table_rows h = rw (eq-eqb (length w) 61 n, lt-ltb (word w 0) (2 ^ 8) h)
@@ -145,12 +99,18 @@ pub read_next : (w : List ℕ) (rows : List Row) (k : ℕ) (r : Row) → k < len
 unfolding rows_of
 read_next w rows k r h e i = rw (add-one k, take-suc-set rows k r h, e, i)
 
-pub table_read : (w : List ℕ) (rows : List Row) (k : ℕ) → 10 ≤ k → k ≤ 10 → length rows ≡ 10 → take k rows ≡ rows_of k w
+table_read : (w : List ℕ) (rows : List Row) (k : ℕ) → 10 ≤ k → k ≤ 10 → length rows ≡ 10 → take k rows ≡ rows_of k w
     → record { rows = rows; count = word w 0 } ≡ table_of w
 unfolding table_of
 table_read w rows k a b n e =
     let i : k ≡ 10 = omega arith in
     rw (sym (take_all 10 rows (omega arith)) ∙ (rw i at e))
+
+pub table_done : (w : List ℕ) (rows : List Row) (k n : ℕ) → length w ≡ 61 → n ≡ word w 0 → word w 0 < 256 → 10 ≤ k → k ≤ 10 → length rows ≡ 10
+    → rows_fit k w ≡ true → take k rows ≡ rows_of k w → (is_table w ≡ true) × (record { rows = rows; count = n } ≡ table_of w)
+table_done w rows k n l q c a b m f e =
+    let i : k ≡ 10 = omega arith in
+    (sym (table_rows w l c) ∙ (rw i at f), rw q (table_read w rows k a b m e))
 
 -- ---- rows written one after the other
 rows_append : (r s : List Row) → rows_words (r ++ s) ≡ rows_words r ++ rows_words s
@@ -175,16 +135,12 @@ write_none t [] h = absurd (omega arith)
 write_none t (a ∷ out) h = record { is = refl; long = refl }
 
 pub write_row : (t : PeerTable) (k : ℕ) (out₀ out ys : List ℕ) → k < length t.rows → row_at (k + 1) ≤ length out₀ → Written (row_at k) (words_to t k) out₀ out
-    → ys ≡ after_write 0 (row_words (get_or t.rows k no_row)) (mid_of (row_at k) (row_at k + 6 - row_at k) out)
+    → ys ≡ row_words (get_or t.rows k no_row)
     → Written (row_at (k + 1)) (words_to t (k + 1)) out₀ (put_mid (row_at k) (row_at k + 6 - row_at k) out ys)
 write_row t k out₀ out ys h l w e =
     let r = row_words (get_or t.rows k no_row) in
     let a : row_at k + 6 ≡ row_at (k + 1) = omega arith in
-    let part = mid_of (row_at k) (row_at k + 6 - row_at k) out in
-    let n = written-length w (omega arith) in
-    let six : length part ≡ 6 = omega (arith, length-take (row_at k + 6 - row_at k) (drop (row_at k) out), length-drop (row_at k) out) in
-    let y : ys ≡ r = e ∙ front_room r part (omega arith) ∙ ap (λ (s : List ℕ). r ++ s) (drop_of_length-le part {i = 6} (omega arith)) ∙ append-nil r in
-    let z = write_part (λ n. r) (row_at k) 6 (row_at k + 6) (words_to t k) out₀ out ys refl (omega arith) refl w y in
+    let z = write_part (λ n. r) (row_at k) 6 (row_at k + 6) (words_to t k) out₀ out ys refl (omega arith) refl w e in
     rw (← a, rows_next t.rows k h) z
 
 pub write_all : (t : PeerTable) (k : ℕ) (out₀ out : List ℕ) → length t.rows ≡ 10 → 10 ≤ k → k ≤ 10
@@ -233,8 +189,8 @@ table_layout =
 
 -- ---- the words of a table are a table
 row_in_range : (k : ℕ) (w : List ℕ) → RowInRange (row_of k w) → row_fits k w ≡ true
-unfolding row_of
-row_in_range k w r = sym (fits_incarnation k w r.id r.address r.port r.state) ∙ lt-ltb (word w (row_at k + 4)) (2 ^ 32) r.incarnation
+unfolding row_of row_fits
+row_in_range k w r = rw (lt-ltb _ _ r.id, lt-ltb _ _ r.address, lt-ltb _ _ r.port, lt-ltb _ _ r.state, lt-ltb _ _ r.incarnation)
 
 rows_in_range_lem : (n : ℕ) (w : List ℕ) → ((r : Row) → Memᴰ r (rows_of n w) → RowInRange r) → rows_fit n w ≡ true
 unfolding rows_fit rows_of

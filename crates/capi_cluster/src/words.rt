@@ -1,97 +1,42 @@
 // A peer table as 61 words.
-ghost use Rattle.std.specs.Prelude.{◌≡◌, true, ◌++◌, ◌<◌, ◌≤◌, length, drop};
-ghost use Rattle.capi_cluster.specs.Words.{row_words, table_words, row_fits, row_of, rows_fit, is_table, table_of};
+ghost use Rattle.std.specs.Prelude.{◌≡◌, true, false, ◌++◌, ◌<◌, ◌≤◌, length, drop, MatchOption};
+ghost use Rattle.capi_cluster.specs.Words.{row_words, table_words, row_fits, row_of, is_table, table_of};
 
-use capi_words::{BYTE_LIMIT, put_front};
 use peers::{PeerTable, Row};
 
-const TABLE_WORDS: usize = 61;
-// The words of 16 and 32 bits are below these.
-const HALF_LIMIT: u64 = 65_536;
+pub(crate) const TABLE_WORDS: usize = 61;
 
-const WORD_LIMIT: u64 = 4_294_967_296;
-
-// Whether the words of row `k` fit their fields.
-fn row_fits(words: &[u64], k: usize) -> bool
+// Row `k`, if its words fit their fields.
+#[tactic(auto, unfolding(crate::specs::Words::row_fits, crate::specs::Words::row_of))]
+fn row_of(words: &[u64], k: usize) -> Option<Row>
     requires { (length words.now ≡ 61) × (k < 10) }
-    ensures { result ≡ row_fits k words.now }
+    ensures { MatchOption result (row_fits k words.now ≡ false) (λ r. (row_fits k words.now ≡ true) × (r ≡ row_of k words.now)) }
 {
     let at = 1 + 6 * k;
-    if BYTE_LIMIT <= words[at] {
-        return false;
-    }
-    if WORD_LIMIT <= words[at + 1] {
-        return false;
-    }
-    if HALF_LIMIT <= words[at + 2] {
-        return false;
-    }
-    if BYTE_LIMIT <= words[at + 3] {
-        return false;
-    }
-    words[at + 4] < WORD_LIMIT
+    Some(Row {
+        id: u8::try_from(words[at]).ok()?,
+        address: u32::try_from(words[at + 1]).ok()?,
+        port: u16::try_from(words[at + 2]).ok()?,
+        state: u8::try_from(words[at + 3]).ok()?,
+        incarnation: u32::try_from(words[at + 4]).ok()?,
+        last_seen: words[at + 5],
+    })
 }
 
-// Whether the words of every row fit their fields.
-fn rows_fit(words: &[u64]) -> bool
-    requires { length words.now ≡ 61 }
-    ensures { result ≡ rows_fit 10 words.now }
-{
-    let mut left: usize = 10;
-    while 0 < left {
-        left -= 1;
-        if !row_fits(words, left) {
-            return false;
-        }
-    }
-    true
-}
-
-// Whether words are a peer table.
-pub(crate) fn is_table(words: &[u64]) -> bool
-    ensures { result ≡ is_table words.now }
+// The peer table that words stand for, if they are one.
+#[tactic(auto, unfolding(crate::specs::Words::is_table))]
+pub(crate) fn table_of(words: &[u64]) -> Option<PeerTable>
+    ensures { MatchOption result (is_table words.now ≡ false) (λ t. (is_table words.now ≡ true) × (t ≡ table_of words.now)) }
 {
     if words.len() != TABLE_WORDS {
-        return false;
+        return None;
     }
-    if BYTE_LIMIT <= words[0] {
-        return false;
-    }
-    rows_fit(words)
-}
-
-// Row `k`.
-fn row_of(words: &[u64], k: usize) -> Row
-    requires { (length words.now ≡ 61) × (k < 10) × (row_fits k words.now ≡ true) }
-    ensures { result ≡ row_of k words.now }
-{
-    let at = 1 + 6 * k;
-    Row {
-        id: words[at] as u8,
-        address: words[at + 1] as u32,
-        port: words[at + 2] as u16,
-        state: words[at + 3] as u8,
-        incarnation: words[at + 4] as u32,
-        last_seen: words[at + 5],
-    }
-}
-
-// The peer table that words stand for.
-pub(crate) fn table_of(words: &[u64]) -> PeerTable
-    requires { is_table words.now ≡ true }
-    ensures { result ≡ table_of words.now }
-{
+    let count = u8::try_from(words[0]).ok()?;
     let mut rows = [Row::NONE; 10];
-    let mut k: usize = 0;
-    while k < 10 {
-        let row = row_of(words, k);
-        rows[k] = row;
-        k += 1;
+    for k in 0..10usize {
+        rows[k] = row_of(words, k)?;
     }
-    PeerTable {
-        rows,
-        count: words[0] as u8,
-    }
+    Some(PeerTable { rows, count })
 }
 
 fn row_words(row: Row) -> [u64; 6]
@@ -113,13 +58,8 @@ pub(crate) fn put_table(table: PeerTable, out: &mut [u64])
     ensures { out.new ≡ table_words table ++ drop 61 out.old }
 {
     out[0] = table.count as u64;
-    let mut k: usize = 0;
-    while k < 10 {
-        let row = table.rows[k];
-        let words = row_words(row);
+    for k in 0..10usize {
         let at = 1 + 6 * k;
-        let end = at + 6;
-        put_front(&mut out[at..end], &words);
-        k += 1;
+        out[at..at + 6].copy_from_slice(&row_words(table.rows[k]));
     }
 }

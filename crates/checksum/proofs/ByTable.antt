@@ -2,14 +2,14 @@
 -- remainder by bits.
 use mathlib.Core.Path.{◌≡◌, refl, sym, ap, ap₂, ◌∙◌}
 use mathlib.Core.List.{List, [], ◌∷◌}
-use Prim.Native.Nat.{ℕ, zero, suc, ◌+◌, ◌-◌, ◌*◌, ◌/◌, ◌%◌, ◌^◌, ◌≤◌, ◌<◌}
+use Prim.Native.Nat.{ℕ, zero, suc, ◌+◌, ◌*◌, ◌/◌, ◌%◌, ◌^◌, ◌≤◌, ◌<◌}
 use native.Mathlib.Nat.{mod-lt, pow-suc}
 use native.Mathlib.Omega.{arith}
 use native.Mathlib.Numerals.{add-one}
 use lib.Bits.{bit_xor, xor_shifted, xor_lt, xor_comm}
 use lib.Dec.{lit<}
 use lib.ListN.{length, take, drop, take-append-drop, length-drop}
-use lib.Seq.{drop-drop, length-take-le, take-add}
+use lib.Seq.{length-take-le, take-add}
 use Rattle.checksum.specs.Crc32c.{steps, byte_step, run, crc32c}
 use Rattle.checksum.specs.Table.{bytes_steps, crc_table, entry_of, byte_step_with, bytes_with, lanes_with, little_endian, block_with, blocks_with, run_with, crc_with}
 use Rattle.checksum.specs.Table.{PartWith, ChecksumWith}
@@ -43,30 +43,6 @@ module _ (t : List ℕ) where
       ≡ lanes_with t k 7 v
   unfolding lanes_with
   eight_lanes k v = refl
-
-  one_block_more : (s : List ℕ) (c m n : ℕ) → m ≡ suc n
-      → bytes_with t (blocks_with t n (block_with t c s) (drop 16 s)) (drop (n * 16) (drop 16 s)) ≡ bytes_with t (blocks_with t m c s) (drop (m * 16) s)
-  unfolding blocks_with
-  one_block_more s c m n e =
-      let f : suc n * 16 ≡ 16 + n * 16 = omega arith in
-      rw (e, f) (ap (bytes_with t (blocks_with t n (block_with t c s) (drop 16 s))) (drop-drop (n * 16) 16 s))
-
-  pub run-turn : (s : List ℕ) (c : ℕ) → 16 ≤ length s → run_with t (block_with t c s) (drop 16 s) ≡ run_with t c s
-  unfolding run_with
-  run-turn s c h = one_block_more s c (length s / 16) (length (drop 16 s) / 16) (omega (arith, length-drop 16 s))
-
-  -- from i on, with sixteen bytes or more left
-  pub run_next_block : (s : List ℕ) (i c : ℕ) → 16 ≤ length s - i → run_with t (block_with t c (drop i s)) (drop (i + 16) s) ≡ run_with t c (drop i s)
-  run_next_block s i c h =
-      ap (run_with t (block_with t c (drop i s))) (sym (drop-drop 16 i s)) ∙ run-turn (drop i s) c (omega (arith, length-drop i s))
-
-  -- with fewer left
-  pub run_last : (s : List ℕ) (c : ℕ) → length s < 16 → run_with t c s ≡ bytes_with t c s
-  unfolding run_with blocks_with
-  run_last s c h = let e : length s / 16 ≡ 0 = omega arith in rw e
-
-  pub run_rest : (s : List ℕ) (i c : ℕ) → length s - i < 16 → bytes_with t c (drop i s) ≡ run_with t c (drop i s)
-  run_rest s i c h = sym (run_last (drop i s) c (omega (arith, length-drop i s)))
 
 -- ---- the table of CRC32C
 

@@ -3,9 +3,9 @@
 
 mod entries;
 
-ghost use Rattle.std.specs.Prelude.{◌≡◌, ◌+◌, ◌%◌, ◌<◌, ◌≤◌, length, take};
-ghost use Rattle.checksum.specs.Crc32c.{bit_step, byte_step, run, crc32c as crc_of};
-ghost use Rattle.checksum.specs.Table.{crc_table, entry_of, byte_step_with, bytes_with, little_endian, lanes_with, block_with, PartWith, ChecksumWith};
+ghost use Rattle.std.specs.Prelude.{◌≡◌, ◌+◌, ◌%◌, ◌<◌, ◌≤◌, length, take, fold};
+ghost use Rattle.checksum.specs.Crc32c.{bit_step, byte_step, crc32c as crc_of};
+ghost use Rattle.checksum.specs.Table.{crc_table, entry_of, byte_step_with, little_endian, lanes_with, block_with, PartWith, ChecksumWith};
 ghost use Rattle.checksum.specs.Fmix32.{fmix32 as fmix_of, times};
 
 // Sixteen rows of 256 entries, one after another.
@@ -43,13 +43,8 @@ pub fn crc32c_with(table: &Table, bytes: &[u8]) -> u32
 pub fn crc32c_part(table: &Table, start: u32, bytes: &[u8]) -> u32
     ensures { PartWith table.now start bytes.now result }
 {
-    let mut c = start;
-    let mut i = 0;
-    while 16 <= bytes.len() - i {
-        c = block_step(table, c, &bytes[i..]);
-        i += 16;
-    }
-    byte_run(table, c, &bytes[i..])
+    let (blocks, rest) = bytes.as_chunks::<16>();
+    byte_run(table, block_run(table, start, blocks), rest)
 }
 
 // fmix32 of `h`.
@@ -61,7 +56,8 @@ pub fn fmix32(h: u32) -> u32
     b ^ (b >> 16)
 }
 
-// A product modulo 2^32, by the product in 64 bits.
+// A product modulo 2^32, by the product in 64 bits: the rules name this form for fmix32, so it is
+// not the library's `wrapping_mul`.
 fn mul_mod_2_32(a: u32, b: u32) -> u32
     ensures { result ≡ times a b }
 {
@@ -86,37 +82,16 @@ fn byte_step(t: &Table, c: u32, b: u8) -> u32
 
 // All bytes of `s`, one after the other.
 fn byte_run(t: &Table, start: u32, s: &[u8]) -> u32
-    ensures { result ≡ bytes_with t.now start s.now }
+    ensures { result ≡ fold (byte_step_with t.now) start s.now }
 {
-    let mut c = start;
-    let mut i = 0;
-    while i < s.len() {
-        c = byte_step(t, c, s[i]);
-        i += 1;
-    }
-    c
+    s.iter().fold(start, |c, b| byte_step(t, c, *b))
 }
 
-fn wide(b: u8) -> u64
-    ensures { (result ≡ b) × (result < 256) }
+// Eight bytes as a number, least significant first.
+fn word(s: &[u8; 8]) -> u64
+    ensures { result ≡ little_endian s.now }
 {
-    b as u64
-}
-
-// The first four bytes of `s` as a number, least significant first.
-fn half(s: &[u8]) -> u64
-    requires { 4 ≤ length s.now }
-    ensures { (result ≡ little_endian (take 4 s.now)) × (result < 4294967296) }
-{
-    wide(s[0]) + wide(s[1]) * 256 + wide(s[2]) * 65536 + wide(s[3]) * 16777216
-}
-
-// The first eight.
-fn word(s: &[u8]) -> u64
-    requires { 8 ≤ length s.now }
-    ensures { result ≡ little_endian (take 8 s.now) }
-{
-    half(s) + half(&s[4..]) * 4294967296
+    u64::from_le_bytes(*s)
 }
 
 // What the lowest byte of `v` becomes by row `row`.
@@ -149,11 +124,18 @@ fn lanes(t: &Table, base: usize, v: u64) -> u32
 }
 
 // Sixteen bytes more.
-fn block_step(t: &Table, c: u32, s: &[u8]) -> u32
-    requires { 16 ≤ length s.now }
+fn block_step(t: &Table, c: u32, s: &[u8; 16]) -> u32
     ensures { result ≡ block_with t.now c s.now }
 {
-    lanes(t, 0, word(&s[8..])) ^ lanes(t, 8, (c as u64) ^ word(s))
+    let (words, _) = s.as_chunks::<8>();
+    lanes(t, 0, word(&words[1])) ^ lanes(t, 8, (c as u64) ^ word(&words[0]))
+}
+
+// Each sixteen bytes, one after the other.
+fn block_run(t: &Table, start: u32, blocks: &[[u8; 16]]) -> u32
+    ensures { result ≡ fold (block_with t.now) start blocks.now }
+{
+    blocks.iter().fold(start, |c, s| block_step(t, c, s))
 }
 
 // One bit.
@@ -168,23 +150,15 @@ fn byte_bits(c: u32, b: u8) -> u32
     ensures { result ≡ byte_step c b }
 {
     let mut x = c ^ (b as u32);
-    let mut left: usize = 8;
-    while 0 < left {
+    for _ in 0..8u32 {
         x = bit_step(x);
-        left -= 1;
     }
     x
 }
 
 // All bytes of `s`, by bits: for a few bytes this costs less than the table.
 fn bit_run(start: u32, s: &[u8]) -> u32
-    ensures { result ≡ run start s.now }
+    ensures { result ≡ fold byte_step start s.now }
 {
-    let mut c = start;
-    let mut i = 0;
-    while i < s.len() {
-        c = byte_bits(c, s[i]);
-        i += 1;
-    }
-    c
+    s.iter().fold(start, |c, b| byte_bits(c, *b))
 }

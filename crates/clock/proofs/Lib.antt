@@ -1,4 +1,3 @@
 pub mod Steps
-pub mod Answers
 pub mod Rising
 pub mod Calls

@@ -1,11 +1,11 @@
--- The cases of each step.
+-- The numbers of a step's refusals.
 use mathlib.Core.Path.{◌≡◌, sym}
 use mathlib.Core.Logic.{inl, inr}
 use mathlib.Core.Bool.{◌||◌}
-use Prim.Native.Nat.{ℕ, ◌+◌, ◌≤◌, ◌<◌, ◌^◌, max}
+use Prim.Native.Nat.{ℕ, ◌+◌, ◌≤◌, max}
 use native.Mathlib.Omega.{arith}
 use lib.Dec.{ltb, leb, eqb}
-use borrow.Author.Tests.{lt-ltb, le-ltb, le-leb, lt-leb, ne_eqb, eqb-true, eqb-false}
+use borrow.Author.Tests.{eqb-true, eqb-false}
 use Rattle.wire.proofs.Tests.{test}
 use Rattle.entry.specs.declared.Refusal.TheVariants as refusal
 use Rattle.entry.specs.Refusal.{Numbered}
@@ -13,58 +13,7 @@ use Rattle.entry.specs.Entry.{bad_time}
 use Rattle.clock.specs.declared.Clock.{Clock}
 use Rattle.clock.specs.Clock.{Stepped, next, refused, raise, with_skew, send_step, receive_in_range, receive_step}
 
-module _ (c : Clock) (now : ℕ) where
-  pub send_bad_now : 2 ^ 48 ≤ now → refused 9 ≡ send_step c now
-  unfolding send_step
-  send_bad_now h = rw (le-leb (2 ^ 48) now h)
-
-  module _ (n : now < 2 ^ 48) where
-    pub send_bad_clock : 2 ^ 48 ≤ c.phys → refused 9 ≡ send_step c now
-    unfolding send_step
-    send_bad_clock h = rw (lt-leb (2 ^ 48) now n, le-leb (2 ^ 48) c.phys h)
-
-    module _ (p : c.phys < 2 ^ 48) where
-      pub send_later : c.phys < now → next (record { phys = now; logical = 0; node = c.node; skew = c.skew }) ≡ send_step c now
-      unfolding send_step
-      send_later h = rw (lt-leb (2 ^ 48) now n, lt-leb (2 ^ 48) c.phys p, lt-ltb c.phys now h)
-
-      pub send_raised : now ≤ c.phys → send_step c now ≡ raise c c.phys c.logical
-      unfolding send_step
-      send_raised h = rw (lt-leb (2 ^ 48) now n, lt-leb (2 ^ 48) c.phys p, le-ltb c.phys now h)
-
-module _ (c : Clock) (p l now : ℕ) where
-  pub receive_bad_now : 2 ^ 48 ≤ now → refused 9 ≡ receive_step c p l now
-  unfolding receive_step
-  receive_bad_now h = rw (le-leb (2 ^ 48) now h)
-
-  module _ (n : now < 2 ^ 48) where
-    pub receive_bad_clock : 2 ^ 48 ≤ c.phys → refused 9 ≡ receive_step c p l now
-    unfolding receive_step
-    receive_bad_clock h = rw (lt-leb (2 ^ 48) now n, le-leb (2 ^ 48) c.phys h)
-
-    module _ (q : c.phys < 2 ^ 48) where
-      pub receive_bad_phys : 2 ^ 48 ≤ p → refused 9 ≡ receive_step c p l now
-      unfolding receive_step
-      receive_bad_phys h = rw (lt-leb (2 ^ 48) now n, lt-leb (2 ^ 48) c.phys q, le-leb (2 ^ 48) p h)
-
-      pub receive_in_range_lem : p < 2 ^ 48 → receive_step c p l now ≡ receive_in_range c p l now
-      unfolding receive_step
-      receive_in_range_lem h = rw (lt-leb (2 ^ 48) now n, lt-leb (2 ^ 48) c.phys q, lt-leb (2 ^ 48) p h)
-
-  pub far_ahead : now + 2000 < p → receive_in_range c p l now ≡ raise (with_skew c) (max c.phys now) c.logical
-  unfolding receive_in_range
-  far_ahead h = rw (lt-ltb (now + 2000) p h)
-
-  module _ (w : p ≤ now + 2000) where
-    pub ahead : c.phys < p → receive_in_range c p l now ≡ raise c p l
-    unfolding receive_in_range
-    ahead h = rw (le-ltb (now + 2000) p w, lt-ltb c.phys p h)
-
-    pub behind : p < c.phys → receive_in_range c p l now ≡ raise c c.phys c.logical
-    unfolding receive_in_range
-    behind h = rw (le-ltb (now + 2000) p w, le-ltb c.phys p (omega arith), ne_eqb p c.phys (λ e. omega (arith, h, e)))
-
--- ---- every refusal is 8 or 9
+-- every refusal is 8 or 9
 abbrev pub StepNumbered : Stepped → Type 0
 StepNumbered (next d) = Unit {0}
 StepNumbered (refused n) = (8 ≤ n) × (n ≤ 9)

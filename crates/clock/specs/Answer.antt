@@ -1,21 +1,17 @@
 -- What the answers of a send and of a receive mean.
-use Rattle.std.specs.Prelude.{ℕ, ◌≡◌}
+use Rattle.std.specs.Prelude.{ℕ, ◌≡◌, Result, Ok, Err}
 use Rattle.entry.specs.Refusal.{number}
+use Rattle.entry.specs.Acceptance.{refusal_number}
+use Rattle.entry.specs.declared.Refusal.{Refusal}
 use Rattle.entry.specs.declared.Stamp.{Stamp}
 use Rattle.clock.specs.declared.Clock.{Clock}
-use Rattle.clock.specs.declared.Step.{Step}
-use Rattle.clock.specs.declared.Step.TheVariants as step
-use Rattle.clock.specs.declared.SendAnswer.{SendAnswer}
-use Rattle.clock.specs.declared.SendAnswer.TheVariants as send
-use Rattle.clock.specs.declared.ReceiveAnswer.{ReceiveAnswer}
-use Rattle.clock.specs.declared.ReceiveAnswer.TheVariants as receive
 use Rattle.clock.specs.declared.Sent.{Sent}
 use Rattle.clock.specs.declared.Receipt.{Receipt}
 use Rattle.clock.specs.Clock.{Stepped, next, refused, stamp_of, send_step, receive_step}
 
-abbrev pub step_meaning : Step → Stepped
-step_meaning (step.Next c) = next c
-step_meaning (step.Refused r) = refused (number r)
+abbrev pub step_meaning : Result Clock Refusal → Stepped
+step_meaning (Ok c) = next c
+step_meaning (Err r) = refused (number r)
 
 -- the clock handed back: the next one, and after a refusal the one that came in (R29)
 abbrev pub clock_after : Clock → Stepped → Clock
@@ -31,18 +27,14 @@ abbrev pub given : Stepped → Given
 given (next d) = stamp (stamp_of d)
 given (refused n) = refusal n
 
-abbrev pub send_meaning : SendAnswer → Given
-send_meaning (send.Stamped s) = stamp s
-send_meaning (send.Refused r) = refusal (number r)
+abbrev pub send_meaning : Result Stamp Refusal → Given
+send_meaning (Ok s) = stamp s
+send_meaning (Err r) = refusal (number r)
 
 -- a receive gives no stamp: 0, or a refusal's number (R199)
 abbrev pub step_refusal_of : Stepped → ℕ
 step_refusal_of (next d) = 0
 step_refusal_of (refused n) = n
-
-abbrev pub receive_meaning : ReceiveAnswer → ℕ
-receive_meaning receive.Received = 0
-receive_meaning (receive.Refused r) = number r
 
 -- the promise of a send (R95, R197, R233)
 pub record Sends (c : Clock) (now : ℕ) (r : Sent) : Type 0 where
@@ -52,4 +44,4 @@ pub record Sends (c : Clock) (now : ℕ) (r : Sent) : Type 0 where
 -- the promise of a receive (R197, R233)
 pub record Receives (c : Clock) (p l now : ℕ) (r : Receipt) : Type 0 where
   pub clock_is : r.clock ≡ clock_after c (receive_step c p l now)
-  pub answer_is : receive_meaning r.answer ≡ step_refusal_of (receive_step c p l now)
+  pub answer_is : refusal_number r.answer ≡ step_refusal_of (receive_step c p l now)

@@ -1,21 +1,18 @@
 // The hybrid logical clock, passed by value: a step takes the clock and hands back the next one.
 #![tactic(auto)]
 
-ghost use Rattle.std.specs.Prelude.{◌≡◌, ◌^◌, ◌<◌, max};
+ghost use Rattle.std.specs.Prelude.{◌≡◌, ◌^◌, ◌<◌};
 ghost use Rattle.clock.specs.Clock.{fresh_clock, stamp_of, raise, with_skew, send_step, receive_in_range, receive_step};
 ghost use Rattle.clock.specs.Answer.{step_meaning, Sends, Receives};
 
-use entry::{Refusal, Stamp, TIME_LIMIT, later};
+use entry::{Refusal, Stamp, TIME_LIMIT};
+use std::cmp::Ordering;
 
 // A received time further ahead of the local reading than this counts as a skew event.
 const WINDOW: u64 = 2000;
 
-const MAX_LOGICAL: u16 = 65_535;
-
-const MAX_SKEW: u32 = 4_294_967_295;
-
 // (P, L), the own node id, and the count of skew events.
-#[derive(Clone, Copy)]
+#[derive(Clone, Copy, PartialEq, Eq, Debug)]
 pub struct Clock {
     pub phys: u64,
     pub logical: u16,
@@ -23,42 +20,19 @@ pub struct Clock {
     pub skew: u32,
 }
 
-// A clock's next value, or why there is none.
-#[derive(Clone, Copy)]
-enum Step {
-    Next(Clock),
-    Refused(Refusal),
-}
-
-#[derive(Clone, Copy)]
-pub enum SendAnswer {
-    Stamped(Stamp),
-    Refused(Refusal),
-}
-
-#[derive(Clone, Copy)]
+// What a send hands back: the next clock, and the stamp of the local write. A refused step hands
+// back the clock that came in. The rules name this form: the clock beside the stamp or the refusal.
+#[derive(Clone, Copy, PartialEq, Eq, Debug)]
 pub struct Sent {
     pub clock: Clock,
-    pub answer: SendAnswer,
+    pub answer: Result<Stamp, Refusal>,
 }
 
-#[derive(Clone, Copy)]
-pub enum ReceiveAnswer {
-    Received,
-    Refused(Refusal),
-}
-
-#[derive(Clone, Copy)]
+// What a receive hands back: likewise, and it gives no stamp.
+#[derive(Clone, Copy, PartialEq, Eq, Debug)]
 pub struct Receipt {
     pub clock: Clock,
-    pub answer: ReceiveAnswer,
-}
-
-// The greater of two logical counts.
-fn greater(a: u16, b: u16) -> u16
-    ensures { result ≡ max a b }
-{
-    if a < b { b } else { a }
+    pub answer: Result<(), Refusal>,
 }
 
 impl Clock {
@@ -85,50 +59,41 @@ impl Clock {
     }
 
     // This clock at `phys`, with a logical count one above `logical`.
-    fn raised(self, phys: u64, logical: u16) -> Step
+    #[tactic(auto, using(std::proofs::lemmas::Bool::Decides::nat_tests), unfolding(crate::specs::Clock::raise))]
+    fn raised(self, phys: u64, logical: u16) -> Result<Clock, Refusal>
         ensures { step_meaning result ≡ raise self phys logical }
     {
-        if MAX_LOGICAL <= logical {
-            return Step::Refused(Refusal::ClockSpent);
-        }
-        Step::Next(Clock {
+        let logical = logical.checked_add(1).ok_or(Refusal::ClockSpent)?;
+        Ok(Clock {
             phys,
-            logical: logical + 1,
-            node: self.node,
-            skew: self.skew,
+            logical,
+            ..self
         })
     }
 
     // This clock with one more skew event, or as many as can be counted.
+    #[tactic(auto, using(std::proofs::lemmas::Bool::Decides::nat_tests), unfolding(crate::specs::Clock::with_skew))]
     fn skewed(self) -> Clock
         ensures { result ≡ with_skew self }
     {
-        if MAX_SKEW <= self.skew {
-            return self;
-        }
         Clock {
-            phys: self.phys,
-            logical: self.logical,
-            node: self.node,
-            skew: self.skew + 1,
+            skew: self.skew.saturating_add(1),
+            ..self
         }
     }
 
-    fn send_step(self, now: u64) -> Step
+    #[tactic(auto, using(std::proofs::lemmas::Bool::Decides::nat_tests), unfolding(crate::specs::Clock::send_step))]
+    fn send_step(self, now: u64) -> Result<Clock, Refusal>
         ensures { step_meaning result ≡ send_step self now }
     {
-        if TIME_LIMIT <= now {
-            return Step::Refused(Refusal::BadTime);
-        }
-        if TIME_LIMIT <= self.phys {
-            return Step::Refused(Refusal::BadTime);
+        if TIME_LIMIT <= now || TIME_LIMIT <= self.phys {
+            return Err(Refusal::BadTime);
         }
         if self.phys < now {
-            return Step::Next(Clock {
+            return Ok(Clock {
                 phys: now,
                 logical: 0,
-                node: self.node,
-                skew: self.skew,
+                ..self
             });
         }
         self.raised(self.phys, self.logical)
@@ -138,64 +103,57 @@ impl Clock {
     pub fn send(self, now: u64) -> Sent
         ensures { Sends self now result }
     {
-        let step = self.send_step(now);
-        match step {
-            Step::Next(clock) => Sent {
+        match self.send_step(now) {
+            Ok(clock) => Sent {
                 clock,
-                answer: SendAnswer::Stamped(clock.stamp()),
+                answer: Ok(clock.stamp()),
             },
-            Step::Refused(refusal) => Sent {
+            Err(refusal) => Sent {
                 clock: self,
-                answer: SendAnswer::Refused(refusal),
+                answer: Err(refusal),
             },
         }
     }
 
     // A step of a receive whose times are in range.
-    fn receive_in_range(self, phys: u64, logical: u16, now: u64) -> Step
+    #[tactic(auto, using(std::proofs::lemmas::Bool::Decides::nat_tests), unfolding(crate::specs::Clock::receive_in_range))]
+    fn receive_in_range(self, phys: u64, logical: u16, now: u64) -> Result<Clock, Refusal>
         requires { now < 2 ^ 48 }
         ensures { step_meaning result ≡ receive_in_range self phys logical now }
     {
         if now + WINDOW < phys {
-            return self.skewed().raised(later(self.phys, now), self.logical);
+            return self.skewed().raised(self.phys.max(now), self.logical);
         }
-        if self.phys < phys {
-            return self.raised(phys, logical);
+        match phys.cmp(&self.phys) {
+            Ordering::Greater => self.raised(phys, logical),
+            Ordering::Equal => self.raised(self.phys, self.logical.max(logical)),
+            Ordering::Less => self.raised(self.phys, self.logical),
         }
-        if self.phys == phys {
-            return self.raised(self.phys, greater(self.logical, logical));
-        }
-        self.raised(self.phys, self.logical)
     }
 
-    fn receive_step(self, phys: u64, logical: u16, now: u64) -> Step
+    #[tactic(auto, using(std::proofs::lemmas::Bool::Decides::nat_tests), unfolding(crate::specs::Clock::receive_step))]
+    fn receive_step(self, phys: u64, logical: u16, now: u64) -> Result<Clock, Refusal>
         ensures { step_meaning result ≡ receive_step self phys logical now }
     {
-        if TIME_LIMIT <= now {
-            return Step::Refused(Refusal::BadTime);
-        }
-        if TIME_LIMIT <= self.phys {
-            return Step::Refused(Refusal::BadTime);
-        }
-        if TIME_LIMIT <= phys {
-            return Step::Refused(Refusal::BadTime);
+        if TIME_LIMIT <= now || TIME_LIMIT <= self.phys || TIME_LIMIT <= phys {
+            return Err(Refusal::BadTime);
         }
         self.receive_in_range(phys, logical, now)
     }
 
-    // Takes note of a received stamp (phys, logical) at the reading `now`.
+    // Takes note of a received stamp (phys, logical) at the reading `now`. The theorems take the
+    // two without a node (`OtherReceivesStay`), so they are no `Stamp`.
     pub fn receive(self, phys: u64, logical: u16, now: u64) -> Receipt
         ensures { Receives self phys logical now result }
     {
-        let step = self.receive_step(phys, logical, now);
-        match step {
-            Step::Next(clock) => Receipt {
+        match self.receive_step(phys, logical, now) {
+            Ok(clock) => Receipt {
                 clock,
-                answer: ReceiveAnswer::Received,
+                answer: Ok(()),
             },
-            Step::Refused(refusal) => Receipt {
+            Err(refusal) => Receipt {
                 clock: self,
-                answer: ReceiveAnswer::Refused(refusal),
+                answer: Err(refusal),
             },
         }
     }

@@ -2,31 +2,26 @@
 use Prim.Native.Nat.{ℕ, ◌+◌, ◌-◌, ◌≤◌, ◌<◌}
 use native.Mathlib.Omega.{arith}
 use mathlib.Core.Path.{◌≡◌, refl, sym, ap, ◌∙◌}
-use mathlib.Core.Logic.{inl, inr}
-use mathlib.Core.List.{List, [], ◌∷◌}
-use mathlib.Core.Option.{some, some-injective}
+use mathlib.Core.Logic.{◌⊎◌, inl, inr}
+use mathlib.Core.List.{List}
+use Rattle.std.specs.Prelude.{Option, None, Some, Result, Ok, Err}
 use lib.ListN.{length, take, drop}
-use types.Run.{OneOf}
-use denote.Enum.Declared.{tag_of}
 use Rattle.wire.specs.Number.{num, Bytes}
 use Rattle.wire.specs.Fill.{field}
 use Rattle.wire.proofs.Tests.{never}
 use Rattle.wire.proofs.Fill.{length-field}
 use Rattle.wire.proofs.Fields.{field_part, field_between, bytes_field, num-field}
-use Rattle.entry.specs.declared.Stamp.{Stamp}
+use Rattle.entry.specs.declared.EntryAt.{EntryAt}
+use Rattle.entry.specs.declared.Refusal.{Refusal}
 use Rattle.entry.specs.Entry.{Entry, entry_of}
 use Rattle.frame.specs.declared.answer.Message.{Message as Located}
-use Rattle.frame.specs.declared.answer.Message.TheVariants.{Put, Get, Del, Repl, Ok, Value, NotFound, Err}
-use Rattle.frame.specs.declared.answer.Read.{Read}
-use Rattle.frame.specs.declared.answer.Read.TheVariants.{Message as Said, Refused}
-use Rattle.frame.specs.contracts.answer.Message.{the_type as the-message}
+use Rattle.frame.specs.declared.answer.Message.TheVariants.{Put, Get, Del, Repl, Ok as OkMessage, Value, NotFound, Err as ErrMessage}
 use Rattle.frame.specs.Message.{repl, message_refusal, InRange}
 use Rattle.frame.specs.Layout.{max_frame}
-use Rattle.frame.specs.Reading.{message, meaning, number_at, read_body, read_answer, read_frame}
+use Rattle.frame.specs.Reading.{part, message, meaning, number_at, read_body, read_answer, read_frame}
 use Rattle.frame.proofs.Envelopes.{holding}
 use Rattle.frame.proofs.RoundTrips.{read_is_taken, read_holds, read_lies_within, unchecked_reads_repl, unchecked_lies_within}
-use Rattle.deliveries.specs.declared.Cut.{Cut}
-use Rattle.deliveries.specs.declared.Cut.TheVariants.{Nothing, Delivery}
+use Rattle.deliveries.specs.declared.Delivery.{Delivery}
 use Rattle.deliveries.specs.Cut.{first_length, first_frame, cut_in, cut_answer, cut_unchecked, delivery_in}
 use Rattle.deliveries.specs.List.{entry_in, first_entry}
 use Rattle.deliveries.specs.Meaning.{UncheckedIsFirst, UncheckedLiesIn}
@@ -58,91 +53,52 @@ module _ (s : List ℕ) where
   length_first = length-field 0 (first_length s) s (omega (arith, first_within))
 
 -- ---- what it says
-not_3 : OneOf (0 ∷ 1 ∷ 2 ∷ 4 ∷ 5 ∷ 6 ∷ 7 ∷ []) 3 → ⊥
-not_3 (inl p) = omega arith
-not_3 (inr (inl p)) = omega arith
-not_3 (inr (inr (inl p))) = omega arith
-not_3 (inr (inr (inr (inl p)))) = omega arith
-not_3 (inr (inr (inr (inr (inl p))))) = omega arith
-not_3 (inr (inr (inr (inr (inr (inl p)))))) = omega arith
-not_3 (inr (inr (inr (inr (inr (inr p)))))) = omega arith
-
-no_repl : (e : ℕ) (m : Located) → OneOf (0 ∷ 1 ∷ 2 ∷ 4 ∷ 5 ∷ 6 ∷ 7 ∷ []) (tag_of the-message m) → Nothing ≡ cut_in e (Said m)
-no_repl e (Put ka kl va vl) h = refl
-no_repl e (Get ka kl) h = refl
-no_repl e (Del ka kl) h = refl
-no_repl e (Repl ka kl va vl f t) h = absurd (not_3 h)
-no_repl e Ok h = refl
-no_repl e (Value va vl) h = refl
-no_repl e NotFound h = refl
-no_repl e (Err n) h = refl
-
-pub not_delivered : (e : ℕ) (r : Read) (m : Located) → r ≡ Said m → OneOf (0 ∷ 1 ∷ 2 ∷ 4 ∷ 5 ∷ 6 ∷ 7 ∷ []) (tag_of the-message m) → Nothing ≡ cut_in e r
-not_delivered e r m q h = rw q (no_repl e m h)
-
-pub is_delivered : (e : ℕ) (r : Read) (m : Located) (ka kl va vl f : ℕ) (st : Stamp) → r ≡ Said m → m ≡ Repl ka kl va vl f st
-    → Delivery ka kl va vl f st e ≡ cut_in e r
-is_delivered e r m ka kl va vl f st q h = rw (q, h)
-
 -- what a reader f says of it
-pub cut_by : (f : List ℕ → Read) (s : List ℕ) (e : ℕ) (r : Read) (x : Cut) → e ≡ first_length s → r ≡ f (take (e - 0) (drop 0 s)) → x ≡ cut_in e r
-    → x ≡ cut_in (first_length s) (f (first_frame s))
+pub cut_by : (f : List ℕ → Result Located Refusal) (s : List ℕ) (e : ℕ) (r : Result Located Refusal) (x : Option Delivery) → e ≡ first_length s
+    → r ≡ f (take (e - 0) (drop 0 s)) → x ≡ cut_in e r → x ≡ cut_in (first_length s) (f (first_frame s))
 unfolding first_frame
 cut_by f s e r x l q h = h ∙ rw (q, field_between 0 (first_length s) e s (omega (arith, l)), l)
 
 -- ---- what a cut means
-said_entry : (f : List ℕ) (e : ℕ) (m : Located) → entry_in (meaning f (Said m)) ≡ delivery_in f (cut_in e (Said m))
-said_entry f e (Put ka kl va vl) = refl
-said_entry f e (Get ka kl) = refl
-said_entry f e (Del ka kl) = refl
-said_entry f e (Repl ka kl va vl fl t) = refl
-said_entry f e Ok = refl
-said_entry f e (Value va vl) = refl
-said_entry f e NotFound = refl
-said_entry f e (Err n) = refl
+-- the entry that stands at these places
+abbrev pub entry_there : List ℕ → EntryAt → Entry
+entry_there s at = entry_of (part at.key s) (part at.value s) at.flag at.stamp
+
+-- an answer of the reader is a REPL's, or no cut
+pub repl_or_none : (e : ℕ) (r : Result Located Refusal)
+    → ((at : EntryAt) × (r ≡ Ok (Repl at))) ⊎ ((cut_in e r ≡ None) × ((f : List ℕ) → entry_in (meaning f r) ≡ None))
+repl_or_none e (Ok (Put k v)) = inr (refl, λ f. refl)
+repl_or_none e (Ok (Get k)) = inr (refl, λ f. refl)
+repl_or_none e (Ok (Del k)) = inr (refl, λ f. refl)
+repl_or_none e (Ok (Repl at)) = inl (at, refl)
+repl_or_none e (Ok OkMessage) = inr (refl, λ f. refl)
+repl_or_none e (Ok (Value v)) = inr (refl, λ f. refl)
+repl_or_none e (Ok NotFound) = inr (refl, λ f. refl)
+repl_or_none e (Ok (ErrMessage n)) = inr (refl, λ f. refl)
+repl_or_none e (Err r) = inr (refl, λ f. refl)
 
 -- the entry that an answer of the reader brings, by the places in the frame
-cut_entry : (f : List ℕ) (e : ℕ) (r : Read) → entry_in (meaning f r) ≡ delivery_in f (cut_in e r)
-cut_entry f e (Said m) = said_entry f e m
-cut_entry f e (Refused r) = refl
+cut_entry : (f : List ℕ) (e : ℕ) (r : Result Located Refusal) → entry_in (meaning f r) ≡ delivery_in f (cut_in e r)
+cut_entry f e r = elim (repl_or_none e r) [ inl w ↦ rw w.1 refl | inr w ↦ w.1 f ∙ ap (delivery_in f) (sym w.0) ]
 
 -- an answer that is a delivery is a REPL's
-pub cut_is : (n : ℕ) (r : Read) (ka kl va vl f : ℕ) (st : Stamp) (e : ℕ) → cut_in n r ≡ Delivery ka kl va vl f st e
-    → (r ≡ Said (Repl ka kl va vl f st)) × (n ≡ e)
-cut_is n (Said (Put ka' kl' va' vl')) ka kl va vl f st e h = never (cc)
-cut_is n (Said (Get ka' kl')) ka kl va vl f st e h = never (cc)
-cut_is n (Said (Del ka' kl')) ka kl va vl f st e h = never (cc)
-cut_is n (Said (Repl ka' kl' va' vl' f' t')) ka kl va vl f st e h = (cc, cc)
-cut_is n (Said Ok) ka kl va vl f st e h = never (cc)
-cut_is n (Said (Value va' vl')) ka kl va vl f st e h = never (cc)
-cut_is n (Said NotFound) ka kl va vl f st e h = never (cc)
-cut_is n (Said (Err k)) ka kl va vl f st e h = never (cc)
-cut_is n (Refused r) ka kl va vl f st e h = never (cc)
+pub cut_is : (n : ℕ) (r : Result Located Refusal) (d : Delivery) → cut_in n r ≡ Some d → (r ≡ Ok (Repl d.entry)) × (n ≡ d.end)
+cut_is n r d h = elim (repl_or_none n r) [
+  | inl w ↦ let e : record { entry = w.0; end = n } ≡ d = cc (rw w.1 at h) in (w.1 ∙ ap (λ (x : Delivery). Ok (Repl x.entry)) e, ap (λ (x : Delivery). x.end) e)
+  | inr w ↦ let z = sym w.0 ∙ h in never (cc)
+]
 
--- what the reader answered brings the entry e, whose key and value stand in the frame f
-record Brings (f : List ℕ) (e : Entry) (r : Read) : Type 0 where
-  ka : ℕ
-  kl : ℕ
-  va : ℕ
-  vl : ℕ
-  is : r ≡ Said (Repl ka kl va vl e.flag e.stamp)
-  key : field ka kl f ≡ e.key
-  value : field va vl f ≡ e.value
+-- what the reader answered brings the entry e, which stands at these places in the frame f
+record Brings (f : List ℕ) (e : Entry) (r : Result Located Refusal) : Type 0 where
+  at : EntryAt
+  is : r ≡ Ok (Repl at)
+  entry : entry_there f at ≡ e
 
-repl_brings : (f : List ℕ) (e : Entry) (ka kl va vl fl : ℕ) (t : Stamp) → entry_of (field ka kl f) (field va vl f) fl t ≡ e
-    → Brings f e (Said (Repl ka kl va vl fl t))
-repl_brings f e ka kl va vl fl t h = rw (← h) (record { ka = ka; kl = kl; va = va; vl = vl; is = refl; key = refl; value = refl })
-
-brings : (f : List ℕ) (e : Entry) (r : Read) → entry_in (meaning f r) ≡ some e → Brings f e r
-brings f e (Said (Put ka kl va vl)) h = never (cc)
-brings f e (Said (Get ka kl)) h = never (cc)
-brings f e (Said (Del ka kl)) h = never (cc)
-brings f e (Said (Repl ka kl va vl fl t)) h = repl_brings f e ka kl va vl fl t (some-injective _ _ h)
-brings f e (Said Ok) h = never (cc)
-brings f e (Said (Value va vl)) h = never (cc)
-brings f e (Said NotFound) h = never (cc)
-brings f e (Said (Err n)) h = never (cc)
-brings f e (Refused r) h = never (cc)
+brings : (f : List ℕ) (e : Entry) (r : Result Located Refusal) → entry_in (meaning f r) ≡ Some e → Brings f e r
+brings f e r h = elim (repl_or_none 0 r) [
+  | inl w ↦ record { at = w.0; is = w.1; entry = cc (rw w.1 at h) }
+  | inr w ↦ let z = sym (w.1 f) ∙ h in never (cc)
+]
 
 -- ---- the delivery at the front
 module _ (s : List ℕ) where
@@ -158,17 +114,17 @@ module _ (s : List ℕ) where
       field_part 0 (first_length s) at w s h ∙ ap (λ (k : ℕ). field k w s) z
 
   -- whatever the bytes are
-  pub unchecked_within : (ka kl va vl f : ℕ) (st : Stamp) (e : ℕ) → cut_unchecked s ≡ Delivery ka kl va vl f st e
-      → (ka + kl ≤ e) × (va + vl ≤ e) × (e ≡ first_length s) × (e ≤ length s)
+  pub unchecked_within : (d : Delivery) → cut_unchecked s ≡ Some d
+      → (d.entry.key.at + d.entry.key.len ≤ d.end) × (d.entry.value.at + d.entry.value.len ≤ d.end) × (d.end ≡ first_length s) × (d.end ≤ length s)
   unfolding cut_unchecked
-  unchecked_within ka kl va vl f st e h =
-      let i = cut_is (first_length s) (read_body 4 (first_frame s)) ka kl va vl f st e h in
-      let w = unchecked_lies_within (first_frame s) (Repl ka kl va vl f st) i.0 in
+  unchecked_within d h =
+      let i = cut_is (first_length s) (read_body 4 (first_frame s)) d h in
+      let w = unchecked_lies_within (first_frame s) (Repl d.entry) i.0 in
       let l = length_first s in
       let g = first_within s in
       (omega (arith, w.0, i.1, l), omega (arith, w.1, i.1, l), sym i.1, omega (arith, i.1, g))
 
-  module _ (e : Entry) (h : first_entry s ≡ some e) where
+  module _ (e : Entry) (h : first_entry s ≡ Some e) where
     there : Brings (first_frame s) e (read_answer (first_frame s))
     unfolding first_entry read_frame
     there = brings (first_frame s) e (read_answer (first_frame s)) h
@@ -178,7 +134,7 @@ module _ (s : List ℕ) where
     unfolding read_frame
     first_reads =
         let t = there in
-        ap (meaning (first_frame s)) t.is ∙ (λ i. message (repl (entry_of (t.key i) (t.value i) e.flag e.stamp)))
+        ap (meaning (first_frame s)) t.is ∙ ap (λ (d : Entry). message (repl d)) t.entry
 
     pub first_long : 8 ≤ first_length s
     first_long =
@@ -199,33 +155,26 @@ module _ (s : List ℕ) where
 
 -- what a cut without a test of the checksum says of a list that begins with the delivery e
 pub record Begins (s : List ℕ) (e : Entry) : Type 0 where
-  pub ka : ℕ
-  pub kl : ℕ
-  pub va : ℕ
-  pub vl : ℕ
-  pub is : cut_unchecked s ≡ Delivery ka kl va vl e.flag e.stamp (first_length s)
-  pub key : field ka kl s ≡ e.key
-  pub value : field va vl s ≡ e.value
+  pub at : EntryAt
+  pub is : cut_unchecked s ≡ Some (record { entry = at; end = first_length s })
+  pub entry : entry_there s at ≡ e
 
-pub begins : (s : List ℕ) (e : Entry) → first_entry s ≡ some e → Begins s e
+pub begins : (s : List ℕ) (e : Entry) → first_entry s ≡ Some e → Begins s e
 unfolding cut_unchecked
 begins s e h =
     let t = there s e h in
     let w = read_lies_within (first_frame s) _ t.is in
     let l = length_first s in
+    let k = frame_part s t.at.key.at t.at.key.len (omega (arith, w.0, l)) in
+    let v = frame_part s t.at.value.at t.at.value.len (omega (arith, w.1, l)) in
     record {
-      ka = t.ka;
-      kl = t.kl;
-      va = t.va;
-      vl = t.vl;
+      at = t.at;
       is = ap (cut_in (first_length s)) (unchecked_reads_repl (first_frame s) e (first_reads s e h) ∙ t.is);
-      key = sym (frame_part s t.ka t.kl (omega (arith, w.0, l))) ∙ t.key;
-      value = sym (frame_part s t.va t.vl (omega (arith, w.1, l))) ∙ t.value;
+      entry = (λ i. entry_of (sym k i) (sym v i) t.at.flag t.at.stamp) ∙ t.entry;
     }
 
 pub unchecked_lies_in : UncheckedLiesIn
 unchecked_lies_in = unchecked_within
 
 pub unchecked_is_first : UncheckedIsFirst
-unchecked_is_first s e h = let b = begins s e h in
-    ap (delivery_in s) b.is ∙ (λ i. some (entry_of (b.key i) (b.value i) e.flag e.stamp))
+unchecked_is_first s e h = let b = begins s e h in ap (delivery_in s) b.is ∙ ap Some b.entry

@@ -3,7 +3,7 @@ use Prim.Native.Nat.{ℕ, ◌+◌, ◌≤◌}
 use native.Mathlib.Omega.{arith}
 use mathlib.Core.Path.{◌≡◌, refl, sym, ap, ◌∙◌}
 use mathlib.Core.List.{List, [], ◌∷◌, ◌++◌}
-use mathlib.Core.Option.{Option, none, some}
+use Rattle.std.specs.Prelude.{Option, None, Some}
 use lib.ListN.{length, take, drop, length-append, length-drop, take-append-drop}
 use lib.Seq.{take-append-le, drop-append-le, drop_at}
 use Rattle.wire.specs.Number.{num}
@@ -41,7 +41,7 @@ module _ (f more : List ℕ) (e : Entry) (h : read_frame f ≡ message (repl e))
   unfolding first_frame
   front_frame = field_here (first_length (f ++ more)) f more (sym front_length)
 
-  pub front_entry : first_entry (f ++ more) ≡ some e
+  pub front_entry : first_entry (f ++ more) ≡ Some e
   unfolding first_entry
   front_entry = ap (λ (s : List ℕ). entry_in (read_frame s)) front_frame ∙ ap entry_in h
 
@@ -75,11 +75,11 @@ read_run (f ∷ fs) (e ∷ es) r = (front_entry f (end_to_end fs) e r.0, rw (fro
 
 -- ---- which lists are readable
 module _ (s : List ℕ) (es : List Entry) where
-  readable_is : deliveries_of s ≡ some es → ReadableAs es s
+  readable_is : deliveries_of s ≡ Some es → ReadableAs es s
   readable_is h = let r = readable_run s es h in
       record { frames = cut_frames es s; bytes = run_bytes es s r.0; read = run_read es s r.0; most = r.1 }
 
-  is_readable : ReadableAs es s → deliveries_of s ≡ some es
+  is_readable : ReadableAs es s → deliveries_of s ≡ Some es
   unfolding deliveries_of
   is_readable r = rw r.bytes (of_run max_deliveries (end_to_end r.frames) es (read_run r.frames es r.read) r.most)
 
@@ -99,17 +99,17 @@ deliveries_read_back es t l =
 -- ---- how many they are
 counted_is : (s : List ℕ) (o : Option (List Entry)) → deliveries_of s ≡ o → (n : ℕ) → counted o ≡ deliveries n
     → (es : List Entry) × ReadableAs es s × (length es ≡ n)
-counted_is s none q n h = never (cc)
-counted_is s (some es) q n h = (es, readable_is s es q, cc)
+counted_is s None q n h = never (cc)
+counted_is s (Some es) q n h = (es, readable_is s es q, cc)
 
 refused_is : (s : List ℕ) (o : Option (List Entry)) → deliveries_of s ≡ o → (n : ℕ) → counted o ≡ refused n
     → (n ≡ 17) × ((es : List Entry) → ReadableAs es s → ⊥)
-refused_is s none q n h = (cc, λ es r. let z = sym q ∙ is_readable s es r in never (cc))
-refused_is s (some es) q n h = never (cc)
+refused_is s None q n h = (cc, λ es r. let z = sym q ∙ is_readable s es r in never (cc))
+refused_is s (Some es) q n h = never (cc)
 
-unreadable : (s : List ℕ) → ((es : List Entry) → ReadableAs es s → ⊥) → (o : Option (List Entry)) → deliveries_of s ≡ o → o ≡ none
-unreadable s h none q = refl
-unreadable s h (some es) q = absurd (h es (readable_is s es q))
+unreadable : (s : List ℕ) → ((es : List Entry) → ReadableAs es s → ⊥) → (o : Option (List Entry)) → deliveries_of s ≡ o → o ≡ None
+unreadable s h None q = refl
+unreadable s h (Some es) q = absurd (h es (readable_is s es q))
 
 pub count_exactly : CountExactly
 unfolding count_answer

@@ -1,12 +1,11 @@
 -- What an auditor would ask of lists of deliveries.
 use Rattle.std.specs.Prelude.{ℕ, ◌+◌, ◌≤◌, ◌≡◌, ◌↔◌, List, [], ◌∷◌, ◌++◌, length}
-use Rattle.std.proofs.Math.Option.{some}
-use Rattle.entry.specs.declared.Stamp.{Stamp}
+use Rattle.std.specs.Prelude.{Some}
 use Rattle.entry.specs.Entry.{Entry, Acceptable}
 use Rattle.frame.specs.Message.{repl, InRange}
 use Rattle.frame.specs.Layout.{frame_of}
 use Rattle.frame.specs.Reading.{message, read_frame}
-use Rattle.deliveries.specs.declared.Cut.TheVariants.{Delivery}
+use Rattle.deliveries.specs.declared.Delivery.{Delivery}
 use Rattle.deliveries.specs.Cut.{first_length, cut_unchecked, delivery_in}
 use Rattle.deliveries.specs.List.{first_entry, deliveries_of, deliveries, refused, count_answer}
 
@@ -32,7 +31,7 @@ pub record ReadableAs (es : List Entry) (s : List ℕ) : Type 0 where
 
 -- a list is readable exactly if it is made of such frames (R246)
 abbrev pub ReadableExactly : Type 0
-ReadableExactly = (s : List ℕ) (es : List Entry) → deliveries_of s ≡ some es ↔ ReadableAs es s
+ReadableExactly = (s : List ℕ) (es : List Entry) → deliveries_of s ≡ Some es ↔ ReadableAs es s
 
 -- so many deliveries are counted, and a list that is not readable is refused (R247)
 pub record CountedExactly (s : List ℕ) : Type 0 where
@@ -53,14 +52,14 @@ frames_of [] = []
 frames_of (e ∷ es) = frame_of (repl e) ∷ frames_of es
 
 abbrev pub DeliveriesReadBack : Type 0
-DeliveriesReadBack = (es : List Entry) → AllTaken es → length es ≤ 1000 → deliveries_of (end_to_end (frames_of es)) ≡ some es
+DeliveriesReadBack = (es : List Entry) → AllTaken es → length es ≤ 1000 → deliveries_of (end_to_end (frames_of es)) ≡ Some es
 
 -- ---- the delivery at the front, with no test of its checksum
 -- of a list that begins with a readable delivery it is that one (R198)
 abbrev pub UncheckedIsFirst : Type 0
-UncheckedIsFirst = (s : List ℕ) (e : Entry) → first_entry s ≡ some e → delivery_in s (cut_unchecked s) ≡ some e
+UncheckedIsFirst = (s : List ℕ) (e : Entry) → first_entry s ≡ Some e → delivery_in s (cut_unchecked s) ≡ Some e
 
 -- and what it answers lies within the bytes, whatever they are (R198)
 abbrev pub UncheckedLiesIn : Type 0
-UncheckedLiesIn = (s : List ℕ) (ka kl va vl f : ℕ) (st : Stamp) (e : ℕ) → cut_unchecked s ≡ Delivery ka kl va vl f st e
-    → (ka + kl ≤ e) × (va + vl ≤ e) × (e ≡ first_length s) × (e ≤ length s)
+UncheckedLiesIn = (s : List ℕ) (d : Delivery) → cut_unchecked s ≡ Some d
+    → (d.entry.key.at + d.entry.key.len ≤ d.end) × (d.entry.value.at + d.entry.value.len ≤ d.end) × (d.end ≡ first_length s) × (d.end ≤ length s)

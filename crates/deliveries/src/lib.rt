@@ -6,35 +6,18 @@ ghost use Rattle.std.specs.Prelude.{◌≡◌, ◌≤◌, length};
 ghost use Rattle.deliveries.specs.Cut.{first_length, cut_in, cut_answer, cut_unchecked};
 ghost use Rattle.deliveries.specs.List.{count_of, count_answer};
 
-use entry::{Refusal, Stamp};
-use frame::{Message, Read, read, read_repl_unchecked};
+use entry::{EntryAt, Refusal};
+use frame::{Message, read, read_repl_unchecked};
 use wire::get_be;
 
 // The most deliveries of a list.
 const MAX_DELIVERIES: usize = 1000;
 
-// The delivery at the front of a list.
-#[derive(Clone, Copy)]
-pub enum Cut {
-    // The list does not begin with one.
-    Nothing,
-    // Where its key and its value stand, its flag and stamp, and where the next one begins.
-    Delivery {
-        key_at: usize,
-        key_len: usize,
-        value_at: usize,
-        value_len: usize,
-        flag: u8,
-        stamp: Stamp,
-        end: usize,
-    },
-}
-
-// How many deliveries a list has, or why it is refused.
-#[derive(Clone, Copy)]
-pub enum Counted {
-    Deliveries(usize),
-    Refused(Refusal),
+// The delivery at the front of a list: where its entry stands, and where the next one begins.
+#[derive(Clone, Copy, Debug, PartialEq, Eq)]
+pub struct Delivery {
+    pub entry: EntryAt,
+    pub end: usize,
 }
 
 // The bytes of the frame at the front, as its LEN says, or all that are left if those are fewer.
@@ -50,36 +33,17 @@ fn first_length(list: &[u8]) -> usize
 }
 
 // What a frame of `end` bytes at the front says, if it is a REPL.
-fn cut_in(said: Read, end: usize) -> Cut
+fn cut_in(said: Result<Message, Refusal>, end: usize) -> Option<Delivery>
     ensures { result ≡ cut_in end said }
 {
-    let Read::Message(message) = said else {
-        return Cut::Nothing;
-    };
-    let Message::Repl {
-        key_at,
-        key_len,
-        value_at,
-        value_len,
-        flag,
-        stamp,
-    } = message
-    else {
-        return Cut::Nothing;
-    };
-    Cut::Delivery {
-        key_at,
-        key_len,
-        value_at,
-        value_len,
-        flag,
-        stamp,
-        end,
+    match said {
+        Ok(Message::Repl(entry)) => Some(Delivery { entry, end }),
+        _ => None,
     }
 }
 
 // The delivery at the front of a list, if it can be read.
-fn cut_delivery(list: &[u8]) -> Cut
+fn cut_delivery(list: &[u8]) -> Option<Delivery>
     ensures { result ≡ cut_answer list.now }
 {
     let end = first_length(list);
@@ -88,7 +52,7 @@ fn cut_delivery(list: &[u8]) -> Cut
 
 // The delivery at the front of a list that is known to be readable: its checksum is not tested
 // again. Other bytes are taken as they stand.
-pub fn cut_unchecked(list: &[u8]) -> Cut
+pub fn cut_unchecked(list: &[u8]) -> Option<Delivery>
     ensures { result ≡ cut_unchecked list.now }
 {
     let end = first_length(list);
@@ -97,21 +61,21 @@ pub fn cut_unchecked(list: &[u8]) -> Cut
 
 // How many deliveries a list has; 17 if it is not readable.
 #[tactic(auto, using(crate::proofs::Runs::turn_full))]
-pub fn count(list: &[u8]) -> Counted
+pub fn count(list: &[u8]) -> Result<usize, Refusal>
     ensures { count_of result ≡ count_answer list.now }
 {
     let mut at: usize = 0;
     let mut n: usize = 0;
+    // a walk over frames of varying length: it counts no index
     while at < list.len() {
         if n == MAX_DELIVERIES {
-            return Counted::Refused(Refusal::BadArgument);
+            return Err(Refusal::BadArgument);
         }
-        let front = cut_delivery(&list[at..]);
-        let Cut::Delivery { end, .. } = front else {
-            return Counted::Refused(Refusal::BadArgument);
+        let Some(front) = cut_delivery(&list[at..]) else {
+            return Err(Refusal::BadArgument);
         };
-        at += end;
+        at += front.end;
         n += 1;
     }
-    Counted::Deliveries(n)
+    Ok(n)
 }

@@ -2,6 +2,7 @@
 use Rattle.std.specs.Prelude.{ℕ, ◌^◌, Bool, true, false, cond, ◌&&◌, ◌||◌, ◌≡◌, List, length, ltb, leb, eqb}
 use Rattle.wire.specs.Order.{bytes_below}
 use Rattle.entry.specs.declared.Stamp.{Stamp}
+use Rattle.entry.specs.declared.Entry as lent
 use Rattle.entry.specs.Key.{bad_key}
 use Rattle.entry.specs.Order.{stamp_below}
 
@@ -14,6 +15,10 @@ pub record Entry : Type 0 where
 
 abbrev pub entry_of : List ℕ → List ℕ → ℕ → Stamp → Entry
 entry_of k v f s = record { key = k; value = v; flag = f; stamp = s }
+
+-- what a lent entry holds
+abbrev pub entry_in : lent.Entry → Entry
+entry_in e = entry_of e.key.now e.value.now e.flag e.stamp
 
 -- a time that is 2^48 or more (R4, R16, R26)
 abbrev pub bad_time : ℕ → Bool

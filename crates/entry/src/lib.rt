@@ -2,14 +2,17 @@
 // an entry is acceptable, and which of two entries of a key wins.
 #![tactic(auto)]
 
-ghost use Rattle.std.specs.Prelude.{◌≡◌, not, List, ℕ, max};
+ghost use Rattle.std.specs.Prelude.{◌≡◌, not, List, ℕ};
 ghost use Rattle.entry.specs.Refusal.{number};
 ghost use Rattle.entry.specs.Key.{reserved, bad_key};
 ghost use Rattle.entry.specs.Order.{least, stamp_below};
-ghost use Rattle.entry.specs.Entry.{entry_of, refusal_of, beats};
+ghost use Rattle.entry.specs.Entry.{entry_of, entry_in, refusal_of, beats};
 ghost use Rattle.entry.specs.Acceptance.{refusal_number};
+ghost use Rattle.wire.specs.Fill.{field};
 
-use wire::{Comparison, compare, starts_with};
+use std::error::Error;
+use std::fmt;
+use wire::{Span, compare, starts_with};
 
 // The longest key and value, in bytes.
 pub const MAX_KEY: usize = 64;
@@ -17,13 +20,13 @@ pub const MAX_KEY: usize = 64;
 pub const MAX_VALUE: usize = 512;
 // Times are milliseconds below this, 2^48.
 pub const TIME_LIMIT: u64 = 281_474_976_710_656;
-// An entry's flag.
+// An entry's flag. Any flag may be given and 2 or more is refused (17, `judge`), so it is a number.
 pub const ACTIVE: u8 = 0;
 
 pub const TOMBSTONE: u8 = 1;
 
 // Why a call is refused: a case for each number, in the order of the numbers.
-#[derive(Clone, Copy)]
+#[derive(Clone, Copy, Debug, PartialEq, Eq)]
 pub enum Refusal {
     BadKey,
     ValueTooLarge,
@@ -52,6 +55,8 @@ pub enum Refusal {
 }
 
 impl Refusal {
+    // A match, and not numbers at the cases: a program that gives two refusals one number has to be
+    // refused by the proof (`below_line_told_as_lower_line`).
     pub fn number(self) -> u8
         ensures { result ≡ number self }
     {
@@ -80,8 +85,17 @@ impl Refusal {
     }
 }
 
-// When and where an entry was written: a hybrid logical time and the node.
-#[derive(Clone, Copy)]
+impl fmt::Display for Refusal {
+    fn fmt<W: fmt::Write>(&self, f: &mut fmt::Formatter<W>) -> fmt::Result {
+        write!(f, "refusal {}", self.number())
+    }
+}
+
+impl Error for Refusal {}
+
+// When and where an entry was written: a hybrid logical time and the node. Stamps are ordered by
+// their fields, in this order.
+#[derive(Clone, Copy, Debug, PartialEq, Eq, PartialOrd, Ord)]
 pub struct Stamp {
     pub phys: u64,
     pub logical: u16,
@@ -105,34 +119,8 @@ impl Stamp {
     pub fn is_below(self, other: Stamp) -> bool
         ensures { result ≡ stamp_below self other }
     {
-        if self.phys < other.phys {
-            return true;
-        }
-        if self.phys != other.phys {
-            return false;
-        }
-        if self.logical < other.logical {
-            return true;
-        }
-        if self.logical != other.logical {
-            return false;
-        }
-        self.node < other.node
+        self < other
     }
-}
-
-// The later of two times.
-pub fn later(a: u64, b: u64) -> u64
-    ensures { result ≡ max a b }
-{
-    if a < b { b } else { a }
-}
-
-// Whether an entry passes the checks that an offer makes of the entry alone.
-#[derive(Clone, Copy)]
-pub enum Acceptance {
-    Acceptable,
-    Refused(Refusal),
 }
 
 fn is_reserved(key: &[u8]) -> bool
@@ -162,57 +150,81 @@ pub fn is_acceptable_key(key: &[u8]) -> bool
     !is_reserved(key)
 }
 
-// The first of an offer's checks 9, 1, 2 and 17 that an entry fails.
-pub fn judge(key: &[u8], value: &[u8], flag: u8, stamp: Stamp) -> Acceptance
-    ensures { refusal_number result ≡ refusal_of (entry_of key.now value.now flag stamp) }
-{
-    if TIME_LIMIT <= stamp.phys {
-        return Acceptance::Refused(Refusal::BadTime);
-    }
-    if !is_acceptable_key(key) {
-        return Acceptance::Refused(Refusal::BadKey);
-    }
-    if MAX_VALUE < value.len() {
-        return Acceptance::Refused(Refusal::ValueTooLarge);
-    }
-    if TOMBSTONE < flag {
-        return Acceptance::Refused(Refusal::BadArgument);
-    }
-    // a tombstone has no value
-    if flag != ACTIVE {
-        if 0 < value.len() {
-            return Acceptance::Refused(Refusal::BadArgument);
-        }
-    }
-    Acceptance::Acceptable
+// An entry as it is lent: its key and value stand in the caller's bytes. Any flag may be given, so
+// it is a number.
+#[derive(Clone, Copy)]
+pub struct Entry<'a> {
+    pub key: &'a [u8],
+    pub value: &'a [u8],
+    pub flag: u8,
+    pub stamp: Stamp,
 }
 
-// Whether an entry wins over another of its key: by the stamp, and at equal stamps by the contents.
-// The keys have no part in it.
-pub fn beats(
-    value: &[u8],
-    flag: u8,
-    stamp: Stamp,
-    other_value: &[u8],
-    other_flag: u8,
-    other_stamp: Stamp,
-) -> bool
-    ensures { (j k : List ℕ)
-        → result ≡ beats (entry_of j value.now flag stamp) (entry_of k other_value.now other_flag other_stamp) }
-{
-    if other_stamp.is_below(stamp) {
-        return true;
+impl Entry<'_> {
+    // The first of an offer's checks 9, 1, 2 and 17 that the entry fails.
+    pub fn judge(self) -> Result<(), Refusal>
+        ensures { refusal_number result ≡ refusal_of (entry_in self.entry) }
+    {
+        if TIME_LIMIT <= self.stamp.phys {
+            return Err(Refusal::BadTime);
+        }
+        if !is_acceptable_key(self.key) {
+            return Err(Refusal::BadKey);
+        }
+        if MAX_VALUE < self.value.len() {
+            return Err(Refusal::ValueTooLarge);
+        }
+        if TOMBSTONE < self.flag {
+            return Err(Refusal::BadArgument);
+        }
+        // a tombstone has no value
+        if self.flag != ACTIVE {
+            if 0 < self.value.len() {
+                return Err(Refusal::BadArgument);
+            }
+        }
+        Ok(())
     }
-    if stamp.is_below(other_stamp) {
-        return false;
+
+    // Whether this entry wins over another of its key: by the stamp, and at equal stamps by the
+    // contents. The keys have no part in it.
+    pub fn beats(self, other: Entry<'_>) -> bool
+        ensures { (j k : List ℕ)
+            → result ≡ beats (entry_of j self.entry.value.now self.entry.flag self.entry.stamp) (entry_of k other.entry.value.now other.entry.flag other.entry.stamp) }
+    {
+        if other.stamp.is_below(self.stamp) {
+            return true;
+        }
+        if self.stamp.is_below(other.stamp) {
+            return false;
+        }
+        if other.flag != self.flag {
+            return other.flag < self.flag;
+        }
+        compare(other.value, self.value).is_lt()
     }
-    if other_flag != flag {
-        return other_flag < flag;
-    }
-    let values = compare(other_value, value);
-    match values {
-        Comparison::Below => true,
-        Comparison::Same => false,
-        Comparison::Above => false,
+}
+
+// Where an entry's key and value stand in a slice, with its flag and stamp.
+#[derive(Clone, Copy, Debug, PartialEq, Eq)]
+pub struct EntryAt {
+    pub key: Span,
+    pub value: Span,
+    pub flag: u8,
+    pub stamp: Stamp,
+}
+
+impl EntryAt {
+    // That entry of `s`, as much of its key and value as there is.
+    pub fn of(self, s: &[u8]) -> Entry<'_>
+        ensures { entry_in result
+            ≡ entry_of (field self.key.at self.key.len s.now) (field self.value.at self.value.len s.now) self.flag self.stamp }
+    {
+        Entry {
+            key: self.key.of(s),
+            value: self.value.of(s),
+            flag: self.flag,
+            stamp: self.stamp,
+        }
     }
 }

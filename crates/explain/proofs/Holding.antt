@@ -6,7 +6,8 @@ use mathlib.Core.Path.{◌≡◌, refl, sym, ap, ◌∙◌}
 use mathlib.Core.Logic.{inl, inr}
 use mathlib.Core.Bool.{true, false, cond}
 use mathlib.Core.List.{List, [], ◌∷◌}
-use mathlib.Core.Option.{Option, none, some}
+use Rattle.std.specs.Prelude.{Option, None, Some}
+use mathlib.Core.Option.{Option as Held, none, some}
 use lib.ListN.{length, drop}
 use borrow.Author.Tests.{le-ltb, eq-eqb}
 use Rattle.wire.specs.Number.{Bytes}
@@ -50,11 +51,11 @@ run-taken (e ∷ es) s b r =
     let t = first_taken s e r.0 b in
     (repl_acceptable e t.0, t.1, run-taken es (drop (first_length s) s) (bytes_drop (first_length s) s b) r.1)
 
-pub deliveries_taken : (list : List ℕ) (es : List Entry) → Bytes list → deliveries_of list ≡ some es → AllTaken es
+pub deliveries_taken : (list : List ℕ) (es : List Entry) → Bytes list → deliveries_of list ≡ Some es → AllTaken es
 deliveries_taken list es b h = run-taken es list b (readable_run list es h).0
 
 -- ---- an entry offered to an image
-told-taken : (e : Entry) (o : Option Entry) → is_refused (told e o) ≡ false
+told-taken : (e : Entry) (o : Held Entry) → is_refused (told e o) ≡ false
 unfolding is_refused told
 told-taken e none = refl
 told-taken e (some h) = elim (test (beats e h)) [ inl p ↦ rw p | inr p ↦ rw p ]
@@ -91,14 +92,14 @@ module _ (C : ℕ) (lo : 1 ≤ C) (hi : C ≤ most_slots) where
   -- ---- the best so far is held
   -- the store that holds it
   abbrev held_for : Option Placed → List ℕ
-  held_for none = image C 0 []
-  held_for (some w) = image C 0 (w.entry ∷ [])
+  held_for None = image C 0 []
+  held_for (Some w) = image C 0 (w.entry ∷ [])
 
   module _ (k : List ℕ) where
     -- it is an acceptable delivery of the key
     abbrev Fair : Option Placed → Type 0
-    Fair none = Unit {0}
-    Fair (some w) = Acceptable w.entry × InRange (repl w.entry) × (is_of k w.entry ≡ true)
+    Fair None = Unit {0}
+    Fair (Some w) = Acceptable w.entry × InRange (repl w.entry) × (is_of k w.entry ≡ true)
 
     put_same : (d h : Entry) → is_of k d ≡ true → is_of k h ≡ true → put d (h ∷ []) ≡ cond (beats d h) (d ∷ []) (h ∷ [])
     unfolding put
@@ -110,8 +111,8 @@ module _ (C : ℕ) (lo : 1 ≤ C) (hi : C ≤ most_slots) where
     offer_next : (o : Option Placed) (i : ℕ) (d : Entry) → Fair o → Acceptable d → InRange (repl d) → is_of k d ≡ true
         → (after_offer (held_for o) d ≡ held_for (best_after k o i d)) × Fair (best_after k o i d)
     unfolding put
-    offer_next none i d f ok r p = rw p (offer_image [] d holds_none ok lo, (ok, r, p))
-    offer_next (some w) i d f ok r p = elim (test (beats d w.entry)) [
+    offer_next None i d f ok r p = rw p (offer_image [] d holds_none ok lo, (ok, r, p))
+    offer_next (Some w) i d f ok r p = elim (test (beats d w.entry)) [
       | inl q ↦
           let e : put d (w.entry ∷ []) ≡ d ∷ [] = put_same d w.entry p f.2 ∙ rw q in
           rw (p, q) (offer_image (w.entry ∷ []) d (holds_one w.entry f.0 f.1) ok (rw e lo) ∙ ap (image C 0) e, (ok, r, p))
@@ -121,8 +122,8 @@ module _ (C : ℕ) (lo : 1 ≤ C) (hi : C ≤ most_slots) where
     ]
 
     best_other : (o : Option Placed) (i : ℕ) (d : Entry) → is_of k d ≡ false → best_after k o i d ≡ o
-    best_other none i d p = rw p
-    best_other (some w) i d p = rw p
+    best_other None i d p = rw p
+    best_other (Some w) i d p = rw p
 
     held_best : (ds : List Entry) (o : Option Placed) (i : ℕ) → Fair o → AllTaken ds → offered_all (of_key k ds) (held_for o) ≡ held_for (best_over k o i ds)
     unfolding of_key offered_all best_over
@@ -135,7 +136,7 @@ module _ (C : ℕ) (lo : 1 ≤ C) (hi : C ≤ most_slots) where
 
     held_winner : (es : List Entry) → AllTaken es → offered_all (of_key k es) (fresh_store C) ≡ held_for (winner k es)
     unfolding fresh_store
-    held_winner es t = held_best es none 0 tt t ∙ ap held_for (winner-over k es)
+    held_winner es t = held_best es None 0 tt t ∙ ap held_for (winner-over k es)
 
 pub winner_is_held : WinnerIsHeld
 unfolding report.is_refused fresh_store

@@ -5,16 +5,22 @@ use mathlib.Core.Path.{◌≡◌, refl, sym, ◌∙◌}
 use mathlib.Core.Logic.{inl, inr}
 use mathlib.Core.Bool.{true, false, cond, ◌&&◌}
 use mathlib.Core.List.{List, [], ◌∷◌}
-use mathlib.Core.Option.{Option, none, some}
+use Rattle.std.specs.Prelude.{Option, None, Some}
 use Rattle.wire.proofs.Tests.{test, clash, and-true}
 use Rattle.entry.specs.Entry.{Entry, beats}
 use Rattle.entry.proofs.EntryOrder.{beats_asym, beats_weak, beats_irrefl}
+use Rattle.explain.specs.Walk.{if_of, best_with}
 use Rattle.explain.specs.Winner.{is_of, unbeaten, Placed, first_unbeaten, winner}
 
 -- the best so far after one more delivery, at place i
 abbrev pub best_after : List ℕ → Option Placed → ℕ → Entry → Option Placed
-best_after k none i d = cond (is_of k d) (some (record { place = i; entry = d })) none
-best_after k (some w) i d = cond (is_of k d && beats d w.entry) (some (record { place = i; entry = d })) (some w)
+best_after k None i d = cond (is_of k d) (Some (record { place = i; entry = d })) None
+best_after k (Some w) i d = cond (is_of k d && beats d w.entry) (Some (record { place = i; entry = d })) (Some w)
+
+-- the same by what is seen of it
+pub after_seen : (k : List ℕ) (o : Option Placed) (i : ℕ) (d : Entry) → best_with o i (if_of k (Some d)) ≡ best_after k o i d
+after_seen k None i d = elim (test (is_of k d)) [ inl p ↦ rw p | inr p ↦ rw p ]
+after_seen k (Some w) i d = elim (test (is_of k d)) [ inl p ↦ rw p | inr p ↦ rw p ]
 
 -- after some more deliveries, from place i on
 unfoldable pub best_over : List ℕ → Option Placed → ℕ → List Entry → Option Placed
@@ -49,7 +55,7 @@ module _ (k : List ℕ) (d : Entry) (ds : List Entry) where
   ]
 
 -- ---- the first that is unbeaten
-first_empty : (k : List ℕ) (all : List Entry) (i : ℕ) → first_unbeaten k all i [] ≡ none
+first_empty : (k : List ℕ) (all : List Entry) (i : ℕ) → first_unbeaten k all i [] ≡ None
 unfolding first_unbeaten
 first_empty k all i = refl
 
@@ -63,7 +69,7 @@ first_same k all these h i (d ∷ ds) = rw (h d, first_same k all these h (suc i
 module _ (k : List ℕ) (i : ℕ) (d : Entry) (ds : List Entry) where
   -- a delivery of the key at the front: it, or the first of the others
   first_of : is_of k d ≡ true
-      → first_unbeaten k (d ∷ ds) i (d ∷ ds) ≡ cond (unbeaten k ds d) (some (record { place = i; entry = d })) (first_unbeaten k ds (suc i) ds)
+      → first_unbeaten k (d ∷ ds) i (d ∷ ds) ≡ cond (unbeaten k ds d) (Some (record { place = i; entry = d })) (first_unbeaten k ds (suc i) ds)
   unfolding first_unbeaten
   first_of p = elim (test (unbeaten k ds d)) [
     | inl q ↦ rw (p, unbeaten_itself k d ds, q)
@@ -82,7 +88,7 @@ module _ (k : List ℕ) (i : ℕ) (d : Entry) (ds : List Entry) where
 -- the best so far stays if no later delivery of the key beats it; otherwise it is the first of
 -- those that is unbeaten
 pub over-from : (k : List ℕ) (w : Placed) (i : ℕ) (ds : List Entry)
-    → best_over k (some w) i ds ≡ cond (unbeaten k ds w.entry) (some w) (first_unbeaten k ds i ds)
+    → best_over k (Some w) i ds ≡ cond (unbeaten k ds w.entry) (Some w) (first_unbeaten k ds i ds)
 unfolding best_over unbeaten
 over-from k w i [] = refl
 over-from k w i (d ∷ ds) = elim (test (is_of k d && beats d w.entry)) [
@@ -94,7 +100,7 @@ over-from k w i (d ∷ ds) = elim (test (is_of k d && beats d w.entry)) [
   ])
 ]
 
-pub over_none : (k : List ℕ) (i : ℕ) (ds : List Entry) → best_over k none i ds ≡ first_unbeaten k ds i ds
+pub over_none : (k : List ℕ) (i : ℕ) (ds : List Entry) → best_over k None i ds ≡ first_unbeaten k ds i ds
 unfolding best_over
 over_none k i [] = sym (first_empty k [] i)
 over_none k i (d ∷ ds) = elim (test (is_of k d)) [
@@ -102,6 +108,6 @@ over_none k i (d ∷ ds) = elim (test (is_of k d)) [
   | inr p ↦ rw p (over_none k (suc i) ds ∙ sym (first_past k i d ds (λ q. clash q p)))
 ]
 
-pub winner-over : (k : List ℕ) (es : List Entry) → best_over k none 0 es ≡ winner k es
+pub winner-over : (k : List ℕ) (es : List Entry) → best_over k None 0 es ≡ winner k es
 unfolding winner
 winner-over k es = over_none k 0 es

@@ -5,7 +5,8 @@ use mathlib.Core.Path.{◌≡◌, refl, sym, ap, ◌∙◌}
 use mathlib.Core.Logic.{inl, inr}
 use mathlib.Core.Bool.{true, false}
 use mathlib.Core.List.{List}
-use mathlib.Core.Option.{Option, none, some, some-injective}
+use Rattle.std.specs.Prelude.{Option, None, Some}
+use mathlib.Core.Option.{some, some-injective}
 use lib.ListN.{length, get_or, drop, get_or-append}
 use lib.Dec.{ltb, eqb}
 use borrow.Author.Tests.{ltb-true, ltb-false, eqb-true, eqb-false}
@@ -128,7 +129,7 @@ reason_apart w d b l = elim l.reason [
 ]
 
 -- ---- the bytes
-module _ (list k out : List ℕ) (es : List Entry) (r : deliveries_of list ≡ some es) (o : Option Placed) (e : winner k es ≡ o) where
+module _ (list k out : List ℕ) (es : List Entry) (r : deliveries_of list ≡ Some es) (o : Option Placed) (e : winner k es ≡ o) where
   byte_of_lem : (a : Answer) → explain_answer list k out ≡ a → is_refused a ≡ false
       → (i : ℕ) (d : Entry) → nth i es ≡ some d → get_or (after_explain list k out) i 0 ≡ get_or (reasons_for k es o) i 0
   unfolding after_explain reported
@@ -191,12 +192,12 @@ module _ (k : List ℕ) (es : List Entry) (w : Placed) (v : Wins k es w) (i : �
     | inr p ↦ rw p (other_means p)
   ]
 
-means_at : (list k out : List ℕ) (es : List Entry) (p : ℕ) (w : Placed) → deliveries_of list ≡ some es → explain_answer list k out ≡ won p
-    → winner k es ≡ some w → w.place ≡ p
+means_at : (list k out : List ℕ) (es : List Entry) (p : ℕ) (w : Placed) → deliveries_of list ≡ Some es → explain_answer list k out ≡ won p
+    → winner k es ≡ Some w → w.place ≡ p
     → (i : ℕ) (d : Entry) → nth i es ≡ some d → Means k p w.entry i d (get_or (after_explain list k out) i 0)
 unfolding is_refused
 means_at list k out es p w r h e q i d n =
-    let b = byte_of_lem list k out es r (some w) e (won p) h refl i d n ∙ byte_at k es i d n w in
+    let b = byte_of_lem list k out es r (Some w) e (won p) h refl i d n ∙ byte_at k es i d n w in
     rw (b, ← q) (byte_means k es w (winner_wins k es w e) i d n)
 
 pub reasons_mean : ReasonsMean
@@ -213,5 +214,5 @@ none_means list k out es r h i d n =
     let u = unrefused list k out es no_delivery r h refl in
     let e = names_none (winner k es) u.names in (
       other_key_lem k d (none_of_key k es e i d n),
-      byte_of_lem list k out es r none e no_delivery h refl i d n ∙ other_at k es i d n,
+      byte_of_lem list k out es r None e no_delivery h refl i d n ∙ other_at k es i d n,
     )

@@ -5,7 +5,7 @@ use mathlib.Core.Path.{◌≡◌, refl, sym, ap, ◌∙◌}
 use mathlib.Core.Logic.{◌⊎◌, inl, inr}
 use mathlib.Core.Bool.{true, false, cond}
 use mathlib.Core.List.{List, ◌++◌}
-use mathlib.Core.Option.{Option, none, some}
+use Rattle.std.specs.Prelude.{Option, None, Some}
 use lib.ListN.{length, drop, length-append, length-drop}
 use lib.Seq.{drop_at}
 use lib.Dec.{ltb}
@@ -24,20 +24,20 @@ use Rattle.explain.proofs.Walking.{length_reasons}
 -- what holds of the answer of each of them holds of the answer
 module _ (k : List ℕ) (room : ℕ) (P : Option (List Entry) → Answer → Type 0) where
   pub record Checks : Type 0 where
-    pub unreadable : P none (refused 17)
-    pub on_bad_key : (es : List Entry) → bad_key k ≡ true → P (some es) (refused 1)
-    pub no_room : (es : List Entry) → bad_key k ≡ false → room < length es → P (some es) (refused 4)
-    pub answered : (es : List Entry) → bad_key k ≡ false → length es ≤ room → P (some es) (named (winner k es))
+    pub unreadable : P None (refused 17)
+    pub on_bad_key : (es : List Entry) → bad_key k ≡ true → P (Some es) (refused 1)
+    pub no_room : (es : List Entry) → bad_key k ≡ false → room < length es → P (Some es) (refused 4)
+    pub answered : (es : List Entry) → bad_key k ≡ false → length es ≤ room → P (Some es) (named (winner k es))
 
-  by_room : (c : Checks) (es : List Entry) → bad_key k ≡ false → P (some es) (cond (ltb room (length es)) (refused 4) (named (winner k es)))
+  by_room : (c : Checks) (es : List Entry) → bad_key k ≡ false → P (Some es) (cond (ltb room (length es)) (refused 4) (named (winner k es)))
   by_room c es b = elim (test (ltb room (length es))) [
     | inl r ↦ rw r (c.no_room es b (ltb-true room (length es) r))
     | inr r ↦ rw r (c.answered es b (ltb-false room (length es) r))
   ]
 
   pub by_check : Checks → (o : Option (List Entry)) → P o (explain_for o k room)
-  by_check c none = c.unreadable
-  by_check c (some es) = elim (test (bad_key k)) [ inl b ↦ rw b (c.on_bad_key es b) | inr b ↦ rw b (by_room c es b) ]
+  by_check c None = c.unreadable
+  by_check c (Some es) = elim (test (bad_key k)) [ inl b ↦ rw b (c.on_bad_key es b) | inr b ↦ rw b (by_room c es b) ]
 
 refused_same : (m n : ℕ) → refused m ≡ refused n → m ≡ n
 refused_same m n h = cc
@@ -48,8 +48,8 @@ apart m n x h = absurd (x (refused_same m n h))
 -- an answer that names, or says that there is none, is no refusal
 pub not_refused : (o : Option Placed) → is_refused (named o) ≡ false
 unfolding is_refused
-not_refused none = refl
-not_refused (some w) = refl
+not_refused None = refl
+not_refused (Some w) = refl
 
 pub named_not : {A : Type 0} (o : Option Placed) (a : Answer) → is_refused a ≡ true → named o ≡ a → A
 named_not o a r h = clash (ap is_refused h ∙ r) (not_refused o)
@@ -65,18 +65,18 @@ module _ (list k out : List ℕ) where
   unfolding explain_answer
   answer_for o d = ap (λ (x : Option (List Entry)). explain_for x k (length out)) d
 
-  is_unreadable : explain_answer list k out ≡ refused 17 → deliveries_of list ≡ none
+  is_unreadable : explain_answer list k out ≡ refused 17 → deliveries_of list ≡ None
   unfolding is_refused
-  is_unreadable = said (λ o a. a ≡ refused 17 → o ≡ none) (record {
+  is_unreadable = said (λ o a. a ≡ refused 17 → o ≡ None) (record {
     unreadable = λ h. refl;
     on_bad_key = λ es b h. apart 1 17 (omega arith) h;
     no_room = λ es b l h. apart 4 17 (omega arith) h;
     answered = λ es b l h. named_not (winner k es) (refused 17) refl h;
   })
 
-  is_bad_key : explain_answer list k out ≡ refused 1 → (es : List Entry) × (deliveries_of list ≡ some es) × (bad_key k ≡ true)
+  is_bad_key : explain_answer list k out ≡ refused 1 → (es : List Entry) × (deliveries_of list ≡ Some es) × (bad_key k ≡ true)
   unfolding is_refused
-  is_bad_key = said (λ o a. a ≡ refused 1 → (es : List Entry) × (o ≡ some es) × (bad_key k ≡ true)) (record {
+  is_bad_key = said (λ o a. a ≡ refused 1 → (es : List Entry) × (o ≡ Some es) × (bad_key k ≡ true)) (record {
     unreadable = λ h. apart 17 1 (omega arith) h;
     on_bad_key = λ es b h. (es, refl, b);
     no_room = λ es b l h. apart 4 1 (omega arith) h;
@@ -84,7 +84,7 @@ module _ (list k out : List ℕ) where
   })
 
   abbrev TooLong : Option (List Entry) → Type 0
-  TooLong o = (es : List Entry) × (o ≡ some es) × (bad_key k ≡ false) × (length out < length es)
+  TooLong o = (es : List Entry) × (o ≡ Some es) × (bad_key k ≡ false) × (length out < length es)
 
   is_no_room : explain_answer list k out ≡ refused 4 → TooLong (deliveries_of list)
   unfolding is_refused
@@ -106,9 +106,9 @@ module _ (list k out : List ℕ) where
 
 pub report_refused : ReportRefused
 report_refused list k out = record {
-  unreadable = (is_unreadable list k out, answer_for list k out none);
-  on_bad_key = (is_bad_key list k out, λ r. answer_for list k out (some r.0) r.1 ∙ rw r.2 refl);
-  no_room = (is_no_room list k out, λ r. answer_for list k out (some r.0) r.1 ∙ rw (r.2, lt-ltb (length out) (length r.0) r.3) refl);
+  unreadable = (is_unreadable list k out, answer_for list k out None);
+  on_bad_key = (is_bad_key list k out, λ r. answer_for list k out (Some r.0) r.1 ∙ rw r.2 refl);
+  no_room = (is_no_room list k out, λ r. answer_for list k out (Some r.0) r.1 ∙ rw (r.2, lt-ltb (length out) (length r.0) r.3) refl);
   numbers = which list k out;
 }
 
@@ -119,10 +119,10 @@ pub record Unrefused (k : List ℕ) (es : List Entry) (room : ℕ) (a : Answer) 
 
 -- what holds of the deliveries, if the list is readable
 abbrev OfAll : (List Entry → Type 0) → Option (List Entry) → Type 0
-OfAll P none = Unit {0}
-OfAll P (some es) = P es
+OfAll P None = Unit {0}
+OfAll P (Some es) = P es
 
-pub unrefused : (list k out : List ℕ) (es : List Entry) (a : Answer) → deliveries_of list ≡ some es → explain_answer list k out ≡ a → is_refused a ≡ false
+pub unrefused : (list k out : List ℕ) (es : List Entry) (a : Answer) → deliveries_of list ≡ Some es → explain_answer list k out ≡ a → is_refused a ≡ false
     → Unrefused k es (length out) a
 unfolding is_refused
 unrefused list k out es a d h n =
@@ -134,13 +134,13 @@ unrefused list k out es a d h n =
     }) in
     (rw (d, h) at s) n
 
-pub names_won : (o : Option Placed) (p : ℕ) → named o ≡ won p → (w : Placed) × (o ≡ some w) × (w.place ≡ p)
-names_won none p h = never (cc)
-names_won (some w) p h = (w, refl, cc)
+pub names_won : (o : Option Placed) (p : ℕ) → named o ≡ won p → (w : Placed) × (o ≡ Some w) × (w.place ≡ p)
+names_won None p h = never (cc)
+names_won (Some w) p h = (w, refl, cc)
 
-pub names_none : (o : Option Placed) → named o ≡ no_delivery → o ≡ none
-names_none none h = refl
-names_none (some w) h = never (cc)
+pub names_none : (o : Option Placed) → named o ≡ no_delivery → o ≡ None
+names_none None h = refl
+names_none (Some w) h = never (cc)
 
 -- ---- what is written
 pub report_writes : ReportWrites

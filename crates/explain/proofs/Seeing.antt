@@ -2,60 +2,25 @@
 use Prim.Native.Nat.{ℕ, ◌+◌, ◌-◌, ◌≤◌}
 use native.Mathlib.Omega.{arith}
 use mathlib.Core.Path.{◌≡◌, refl, sym, ap, ◌∙◌}
-use mathlib.Core.Bool.{Bool, true, false}
-use mathlib.Core.List.{List, []}
+use mathlib.Core.Bool.{Bool, true, false, cond}
+use mathlib.Core.List.{List}
 use lib.ListN.{length, take, drop, length-drop}
 use borrow.Author.Tests.{eq-eqb, ne_eqb}
+use Rattle.std.specs.Prelude.{Option, None, Some}
+use Rattle.std.specs.Bool.{then_some}
 use Rattle.wire.specs.Order.{same_bytes}
-use Rattle.wire.proofs.Fields.{field_between, rest}
+use Rattle.wire.proofs.Fields.{rest}
 use Rattle.entry.specs.declared.Stamp.{Stamp}
-use Rattle.entry.specs.Order.{least}
-use Rattle.entry.specs.Entry.{Entry, entry_of, content_below, beats}
-use Rattle.entry.proofs.EntryOrder.{at_equal, content_keys, beats_keys}
-use Rattle.deliveries.specs.declared.Cut.{Cut}
-use Rattle.deliveries.specs.declared.Cut.TheVariants.{Nothing, Delivery}
+use Rattle.entry.specs.declared.Entry.{Entry as Lent}
+use Rattle.entry.specs.Entry.{Entry, entry_of, entry_in, content_below, beats}
+use Rattle.entry.proofs.EntryOrder.{at_equal}
+use Rattle.frame.specs.Reading.{part}
+use Rattle.deliveries.specs.declared.Delivery.{Delivery}
 use Rattle.deliveries.specs.Cut.{cut_unchecked}
 use Rattle.deliveries.proofs.Cutting.{unchecked_within}
-use Rattle.explain.specs.declared.walk.Seen.{Seen}
-use Rattle.explain.specs.declared.walk.Best.{Best}
-use Rattle.explain.specs.Reason.{won, earlier_time, lower_count, lower_node, lower_content, same_entry, other_key, reason}
-use Rattle.explain.specs.Walk.{seen_entry, seen_in, seen, Alike, is_better, next_best, byte_by}
-
--- ---- the best so far
-module _ (list : List ℕ) (best : Best) (see : Seen) where
-  pub best_other : see.matches ≡ false → false ≡ is_better list best see
-  unfolding is_better
-  best_other h = rw h
-
-  pub best_first : see.matches ≡ true → best.found ≡ false → true ≡ is_better list best see
-  unfolding is_better
-  best_first h f = rw (h, f)
-
-  pub best_by_order : see.matches ≡ true → best.found ≡ true → beats (seen_entry list see) (seen_entry list best.seen) ≡ is_better list best see
-  unfolding is_better
-  best_by_order h f = rw (h, f)
-
-  module _ (i : ℕ) where
-    pub best_stays : is_better list best see ≡ false → best ≡ next_best list best i see
-    unfolding next_best
-    best_stays h = rw h
-
-    pub best-taken : is_better list best see ≡ true → record { found = true; place = i; seen = see } ≡ next_best list best i see
-    unfolding next_best
-    best-taken h = rw h
-
-    -- ---- the byte
-    pub byte_other : see.matches ≡ false → other_key ≡ byte_by list best i see
-    unfolding byte_by
-    byte_other h = rw h
-
-    pub byte_won : see.matches ≡ true → i ≡ best.place → won ≡ byte_by list best i see
-    unfolding byte_by
-    byte_won h e = rw (h, eq-eqb i best.place e)
-
-    pub byte_lost : see.matches ≡ true → (i ≡ best.place → ⊥) → reason (seen_entry list best.seen) (seen_entry list see) ≡ byte_by list best i see
-    unfolding byte_by
-    byte_lost h e = rw (h, ne_eqb i best.place e)
+use Rattle.explain.specs.Winner.{is_of}
+use Rattle.explain.specs.Reason.{earlier_time, lower_count, lower_node, lower_content, same_entry, reason}
+use Rattle.explain.specs.Walk.{lent, seen, behind}
 
 -- ---- the reason
 same_stamp : (s t : Stamp) → s.phys ≡ t.phys → s.logical ≡ t.logical → s.node ≡ t.node → s ≡ t
@@ -103,41 +68,49 @@ module _ (w d : Entry) where
               sym won_by_content ∙ b,
             )
 
--- ---- entries that differ in their keys at most
-module _ {c d e f : Entry} (a : Alike c e) (b : Alike d f) where
-  pub alike_beats : beats c d ≡ beats e f
-  alike_beats =
-      sym (beats_keys [] [] c d)
-      ∙ (λ i. beats (entry_of [] (a.value i) (a.flag i) (a.stamp i)) (entry_of [] (b.value i) (b.flag i) (b.stamp i)))
-      ∙ beats_keys [] [] e f
-
-reason_keys : (w d : Entry) → reason (entry_of [] w.value w.flag w.stamp) (entry_of [] d.value d.flag d.stamp) ≡ reason w d
-unfolding reason
-reason_keys w d = rw (content_keys [] [] d w)
-
-pub alike_reason : {v w d e : Entry} → Alike v w → Alike d e → reason v d ≡ reason w e
-alike_reason {v} {w} {d} {e} a b =
-    sym (reason_keys v d)
-    ∙ (λ i. reason (entry_of [] (a.value i) (a.flag i) (a.stamp i)) (entry_of [] (b.value i) (b.flag i) (b.stamp i)))
-    ∙ reason_keys w e
-
 -- ---- what is seen
-module _ (list : List ℕ) (at : ℕ) (k : List ℕ) (x : Cut) (c : x ≡ cut_unchecked (take (length list - at) (drop at list))) where
+lent_then : (b : Bool) (l : Lent) → lent (then_some b l) ≡ cond b (Some (entry_in l)) None
+lent_then true l = refl
+lent_then false l = refl
+
+module _ (list : List ℕ) (at : ℕ) (k : List ℕ) (x : Option Delivery) (c : x ≡ cut_unchecked (take (length list - at) (drop at list))) where
   cut_there : x ≡ cut_unchecked (drop at list)
   cut_there = c ∙ ap cut_unchecked (rest at list)
 
-  pub seen_nothing : x ≡ Nothing → record { matches = false; start = at; stop = at; flag = 0; stamp = least; next = length list } ≡ seen list at k
-  unfolding seen
-  seen_nothing h = ap (seen_in list at k) (sym (sym cut_there ∙ h))
+  module _ (h : x ≡ None) where
+    nothing_there : cut_unchecked (drop at list) ≡ None
+    nothing_there = sym cut_there ∙ h
 
-  module _ (ka kl va vl f : ℕ) (st : Stamp) (e : ℕ) (h : x ≡ Delivery ka kl va vl f st e) where
-    pub seen_within : at ≤ length list → (at + ka + kl ≤ length list) × (at + va + vl ≤ length list) × (at + e ≤ length list)
-    seen_within l =
-        let w = unchecked_within (drop at list) ka kl va vl f st e (sym cut_there ∙ h) in
-        let n = length-drop at list in
-        (omega (arith, w.0, w.3, n, l), omega (arith, w.1, w.3, n, l), omega (arith, w.3, n, l))
-
-    pub seen_delivery : (b : Bool) → b ≡ same_bytes k (take (at + ka + kl - (at + ka)) (drop (at + ka) list))
-        → record { matches = b; start = at + va; stop = at + va + vl; flag = f; stamp = st; next = at + e } ≡ seen list at k
+    pub seen_nothing : None ≡ seen list at k
     unfolding seen
-    seen_delivery b q = rw (q, field_between (at + ka) kl (at + ka + kl) list refl) (ap (seen_in list at k) (sym (sym cut_there ∙ h)))
+    seen_nothing = rw nothing_there
+
+    pub behind_nothing : length list ≡ behind list at
+    unfolding behind
+    behind_nothing = rw nothing_there
+
+  module _ (d : Delivery) (h : x ≡ Some d) where
+    delivery_there : cut_unchecked (drop at list) ≡ Some d
+    delivery_there = sym cut_there ∙ h
+
+    pub end_within : at ≤ length list → at + d.end ≤ length list
+    end_within l =
+        let w = unchecked_within (drop at list) d delivery_there in
+        omega (arith, w.3, length-drop at list, l)
+
+    pub behind_delivery : at + d.end ≡ behind list at
+    unfolding behind
+    behind_delivery = rw delivery_there
+
+    abbrev left : List ℕ
+    left = take (length list - at) (drop at list)
+
+    -- its entry, by whether it is of the key
+    module _ (e : Entry) (q : e ≡ entry_of (part d.entry.key left) (part d.entry.value left) d.entry.flag d.entry.stamp) (b : Bool)
+        (s : b ≡ same_bytes k e.key) where
+      seen_as : cond b (Some e) None ≡ seen list at k
+      unfolding seen is_of
+      seen_as = rw (delivery_there, s, q, rest at list)
+
+      pub seen_delivery : (l : Lent) → entry_in l ≡ e → lent (then_some b l) ≡ seen list at k
+      seen_delivery l z = lent_then b l ∙ ap (λ (y : Entry). cond b (Some y) None) z ∙ seen_as

@@ -5,9 +5,10 @@ use mathlib.Core.Path.{◌≡◌, refl, sym, ap, ◌∙◌}
 use mathlib.Core.Logic.{inl, inr}
 use mathlib.Core.Bool.{true, false, not, ◌&&◌}
 use mathlib.Core.List.{List, [], ◌∷◌}
-use mathlib.Core.Option.{none, some, none-ne-some, some-injective}
+use Rattle.std.specs.Prelude.{None, Some}
+use mathlib.Core.Option.{some, some-injective, none-ne-some}
 use Rattle.wire.specs.Order.{same_bytes}
-use Rattle.wire.proofs.Tests.{test, clash, and-true, false_of}
+use Rattle.wire.proofs.Tests.{test, clash, and-true, false_of, never}
 use Rattle.wire.proofs.Order.{same_bytes_eq, same_bytes_refl}
 use Rattle.entry.specs.Entry.{Entry, beats}
 use Rattle.store.specs.Listing.{nth}
@@ -50,13 +51,13 @@ found_next k all i d ds w n h f = record {
     before zero c e o l = let q = some-injective d c e in rw (← q) (rw (ap (is_of k) q ∙ o) at h)
     before (suc j) c e o l = f.before j c e o (omega arith)
 
-found_at : (k : List ℕ) (all : List Entry) (i : ℕ) (ds : List Entry) (w : Placed) → first_unbeaten k all i ds ≡ some w → (n : ℕ) × FoundAt k all i ds w n
+found_at : (k : List ℕ) (all : List Entry) (i : ℕ) (ds : List Entry) (w : Placed) → first_unbeaten k all i ds ≡ Some w → (n : ℕ) × FoundAt k all i ds w n
 unfolding first_unbeaten nth
-found_at k all i [] w h = absurd (none-ne-some w h)
+found_at k all i [] w h = never (cc)
 found_at k all i (d ∷ ds) w h = elim (test (is_of k d && unbeaten k all d)) [
   | inl p ↦
       let t = and-true (is_of k d) (unbeaten k all d) p in
-      let q : record { place = i; entry = d } ≡ w = some-injective _ w (rw p at h) in
+      let q : record { place = i; entry = d } ≡ w = cc (rw p at h) in
       (0, rw (← q) (record { place = omega arith; there = refl; of_key_lem = t.0; most = t.1; before = λ j c e o l. absurd (omega arith) }))
   | inr p ↦ let f = found_at k all (suc i) ds w (rw p at h) in (suc f.0, found_next k all i d ds w f.0 p f.1)
 ]
@@ -78,7 +79,7 @@ no_beat k (c ∷ ds) e h zero d n o =
     false_of (beats d e) (λ b. clash (rw (ap (is_of k) q ∙ o, ap (λ (x : Entry). beats x e) q ∙ b) at h) refl)
 no_beat k (c ∷ ds) e h (suc i) d n o = no_beat k ds e (and-true (not (is_of k c && beats c e)) (unbeaten k ds e) h).1 i d n o
 
-pub winner_wins : (k : List ℕ) (es : List Entry) (w : Placed) → winner k es ≡ some w → Wins k es w
+pub winner_wins : (k : List ℕ) (es : List Entry) (w : Placed) → winner k es ≡ Some w → Wins k es w
 unfolding winner
 winner_wins k es w h =
     let (n, f) = found_at k es 0 es w h in
@@ -94,28 +95,28 @@ winner_wins k es w h =
     }
 
 -- ---- none
-over_some : (k : List ℕ) (w : Placed) (i : ℕ) (ds : List Entry) {A : Type 0} → best_over k (some w) i ds ≡ none → A
+over_some : (k : List ℕ) (w : Placed) (i : ℕ) (ds : List Entry) {A : Type 0} → best_over k (Some w) i ds ≡ None → A
 unfolding best_over
-over_some k w i [] h = absurd (none-ne-some w (sym h))
+over_some k w i [] h = never (cc)
 over_some k w i (d ∷ ds) h = elim (test (is_of k d && beats d w.entry)) [
   | inl p ↦ over_some k (record { place = i; entry = d }) (suc i) ds (rw p at h)
   | inr p ↦ over_some k w (suc i) ds (rw p at h)
 ]
 
-not_held_for : (k : List ℕ) (i : ℕ) (d : Entry) (ds : List Entry) → best_over k none i (d ∷ ds) ≡ none → (is_of k d ≡ false)
-    × (best_over k none (suc i) ds ≡ none)
+not_held_for : (k : List ℕ) (i : ℕ) (d : Entry) (ds : List Entry) → best_over k None i (d ∷ ds) ≡ None → (is_of k d ≡ false)
+    × (best_over k None (suc i) ds ≡ None)
 unfolding best_over
 not_held_for k i d ds h = elim (test (is_of k d)) [
   | inl p ↦ over_some k (record { place = i; entry = d }) (suc i) ds (rw p at h)
   | inr p ↦ (p, rw p at h)
 ]
 
-never_held_for : (k : List ℕ) (i : ℕ) (ds : List Entry) → best_over k none i ds ≡ none → (j : ℕ) (d : Entry) → nth j ds ≡ some d → is_of k d ≡ false
+never_held_for : (k : List ℕ) (i : ℕ) (ds : List Entry) → best_over k None i ds ≡ None → (j : ℕ) (d : Entry) → nth j ds ≡ some d → is_of k d ≡ false
 unfolding nth
 never_held_for k i [] h j d n = absurd (none-ne-some d n)
 never_held_for k i (c ∷ ds) h zero d n = ap (is_of k) (sym (some-injective c d n)) ∙ (not_held_for k i c ds h).0
 never_held_for k i (c ∷ ds) h (suc j) d n = never_held_for k (suc i) ds (not_held_for k i c ds h).1 j d n
 
 -- where there is no winner, no delivery is of the key
-pub none_of_key : (k : List ℕ) (es : List Entry) → winner k es ≡ none → (i : ℕ) (d : Entry) → nth i es ≡ some d → is_of k d ≡ false
+pub none_of_key : (k : List ℕ) (es : List Entry) → winner k es ≡ None → (i : ℕ) (d : Entry) → nth i es ≡ some d → is_of k d ≡ false
 none_of_key k es h = never_held_for k 0 es (winner-over k es ∙ h)

@@ -1,6 +1,6 @@
 -- What the report means: the winner is what a store holds, and each reason is what it says.
-use Rattle.std.specs.Prelude.{ℕ, ◌≤◌, ◌<◌, ◌≡◌, ◌⊎◌, ◌↔◌, true, false, cond, List, [], ◌∷◌, length, drop, get_or}
-use Rattle.std.proofs.Math.Option.{none, some}
+use Rattle.std.specs.Prelude.{ℕ, ◌≤◌, ◌<◌, ◌≡◌, ◌⊎◌, ◌↔◌, true, false, cond, List, [], ◌∷◌, length, drop, get_or, None, Some}
+use Rattle.std.proofs.Math.Option.{some}
 use Rattle.wire.specs.Number.{Bytes}
 use Rattle.entry.specs.Key.{bad_key}
 use Rattle.entry.specs.Entry.{Entry, beats}
@@ -17,10 +17,10 @@ use Rattle.explain.specs.Explain.{won, no_delivery, refused, is_refused, explain
 -- ---- the refusals
 -- each is given exactly where its check is the first that fails (R252)
 pub record RefusedExactly (list k out : List ℕ) : Type 0 where
-  pub unreadable : explain_answer list k out ≡ refused 17 ↔ (deliveries_of list ≡ none)
-  pub on_bad_key : explain_answer list k out ≡ refused 1 ↔ ((es : List Entry) × (deliveries_of list ≡ some es) × (bad_key k ≡ true))
+  pub unreadable : explain_answer list k out ≡ refused 17 ↔ (deliveries_of list ≡ None)
+  pub on_bad_key : explain_answer list k out ≡ refused 1 ↔ ((es : List Entry) × (deliveries_of list ≡ Some es) × (bad_key k ≡ true))
   pub no_room : explain_answer list k out ≡ refused 4
-      ↔ ((es : List Entry) × (deliveries_of list ≡ some es) × (bad_key k ≡ false) × (length out < length es))
+      ↔ ((es : List Entry) × (deliveries_of list ≡ Some es) × (bad_key k ≡ false) × (length out < length es))
   pub numbers : (n : ℕ) → explain_answer list k out ≡ refused n → (n ≡ 17) ⊎ (n ≡ 1) ⊎ (n ≡ 4)
 
 abbrev pub ReportRefused : Type 0
@@ -30,7 +30,7 @@ ReportRefused = (list k out : List ℕ) → RefusedExactly list k out
 -- deliveries are written, and later bytes stay (R29, R31, R250)
 pub record Writes (list k out : List ℕ) : Type 0 where
   pub refused : is_refused (explain_answer list k out) ≡ true → after_explain list k out ≡ out
-  pub reported : (es : List Entry) → deliveries_of list ≡ some es → is_refused (explain_answer list k out) ≡ false
+  pub reported : (es : List Entry) → deliveries_of list ≡ Some es → is_refused (explain_answer list k out) ≡ false
       → (length es ≤ length out) × (length (after_explain list k out) ≡ length out) × (drop (length es) (after_explain list k out) ≡ drop (length es) out)
 
 abbrev pub ReportWrites : Type 0
@@ -57,7 +57,7 @@ pub record WinnerHeld (list k out : List ℕ) (es : List Entry) (C : ℕ) : Type
   pub on_no_delivery : explain_answer list k out ≡ no_delivery → held_after C k es ≡ fresh_store C
 
 abbrev pub WinnerIsHeld : Type 0
-WinnerIsHeld = (list k out : List ℕ) (es : List Entry) → Bytes list → deliveries_of list ≡ some es
+WinnerIsHeld = (list k out : List ℕ) (es : List Entry) → Bytes list → deliveries_of list ≡ Some es
     → (C : ℕ) → 1 ≤ C → C ≤ most_slots → WinnerHeld list k out es C
 
 -- ---- each reason means what it says
@@ -83,10 +83,10 @@ pub record Means (k : List ℕ) (p : ℕ) (w : Entry) (i : ℕ) (d : Entry) (b :
   pub again : b ≡ byte.same_entry → p < i
 
 abbrev pub ReasonsMean : Type 0
-ReasonsMean = (list k out : List ℕ) (es : List Entry) (p : ℕ) → deliveries_of list ≡ some es → explain_answer list k out ≡ won p
+ReasonsMean = (list k out : List ℕ) (es : List Entry) (p : ℕ) → deliveries_of list ≡ Some es → explain_answer list k out ≡ won p
     → (w : Entry) × (nth p es ≡ some w) × (w.key ≡ k) × ((i : ℕ) (d : Entry) → nth i es ≡ some d → Means k p w i d (get_or (after_explain list k out) i 0))
 
 -- with NONE every delivery is of another key, and every byte says so (R248, R250)
 abbrev pub NoneMeans : Type 0
-NoneMeans = (list k out : List ℕ) (es : List Entry) → deliveries_of list ≡ some es → explain_answer list k out ≡ no_delivery
+NoneMeans = (list k out : List ℕ) (es : List Entry) → deliveries_of list ≡ Some es → explain_answer list k out ≡ no_delivery
     → (i : ℕ) (d : Entry) → nth i es ≡ some d → (d.key ≡ k → ⊥) × (get_or (after_explain list k out) i 0 ≡ byte.other_key)

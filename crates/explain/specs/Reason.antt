@@ -1,7 +1,8 @@
 -- Why a delivery lost, and the byte that says so.
-use Rattle.std.specs.Prelude.{ℕ, suc, cond, not, List, [], ◌∷◌, length, replicate, eqb}
-use Rattle.std.proofs.Math.Option.{Option, none, some}
+use Rattle.std.specs.Prelude.{ℕ, suc, cond, not, List, [], ◌∷◌, length, replicate, eqb, Option, None, Some}
 use Rattle.entry.specs.Entry.{Entry, content_below}
+use Rattle.explain.specs.declared.walk.Reason.{Reason}
+use Rattle.explain.specs.declared.walk.Reason.TheVariants as why
 use Rattle.explain.specs.Winner.{is_of, Placed}
 
 -- the bytes (R250)
@@ -25,6 +26,15 @@ other_key = 5
 
 abbrev pub lower_content : ℕ
 lower_content = 6
+
+abbrev pub byte : Reason → ℕ
+byte why.Won = won
+byte why.EarlierTime = earlier_time
+byte why.LowerCount = lower_count
+byte why.LowerNode = lower_node
+byte why.SameEntry = same_entry
+byte why.OtherKey = other_key
+byte why.LowerContent = lower_content
 
 -- why the delivery d lost to the winner w: the first field of the stamp in which they differ, or,
 -- at equal stamps, lower contents; or it is the winner's entry again (R249, R256)
@@ -50,5 +60,5 @@ bytes_from k w i (d ∷ ds) = byte_of k w i d ∷ bytes_from k w (suc i) ds
 
 -- one byte for each delivery; all are of other keys where none won (R250)
 abbrev pub reasons_for : List ℕ → List Entry → Option Placed → List ℕ
-reasons_for k es none = replicate (length es) other_key
-reasons_for k es (some w) = bytes_from k w 0 es
+reasons_for k es None = replicate (length es) other_key
+reasons_for k es (Some w) = bytes_from k w 0 es

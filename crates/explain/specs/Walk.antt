@@ -1,17 +1,12 @@
 -- What the walks over a readable list see and keep.
-use Rattle.std.specs.Prelude.{ℕ, ◌+◌, ◌-◌, ◌≤◌, ◌≡◌, Bool, true, false, cond, not, ◌&&◌, ◌||◌, List, [], length, drop, eqb}
-use Rattle.std.proofs.Math.Option.{Option, none, some}
-use Rattle.wire.specs.Fill.{field}
-use Rattle.wire.specs.Order.{same_bytes}
-use Rattle.entry.specs.Order.{least}
-use Rattle.entry.specs.Entry.{Entry, entry_of, beats}
-use Rattle.deliveries.specs.declared.Cut.{Cut}
-use Rattle.deliveries.specs.declared.Cut.TheVariants.{Nothing, Delivery}
-use Rattle.deliveries.specs.Cut.{cut_unchecked}
+use Rattle.std.specs.Prelude.{ℕ, ◌+◌, ◌≡◌, cond, List, length, drop, eqb, Option, None, Some}
+use Rattle.entry.specs.declared.Entry as lent_entry
+use Rattle.entry.specs.Entry.{Entry, entry_in, beats}
+use Rattle.deliveries.specs.declared.Delivery.{Delivery}
+use Rattle.deliveries.specs.Cut.{cut_unchecked, delivery_in}
 use Rattle.deliveries.specs.List.{deliveries_of}
-use Rattle.explain.specs.declared.walk.Seen.{Seen}
 use Rattle.explain.specs.declared.walk.Best.{Best}
-use Rattle.explain.specs.Winner.{Placed}
+use Rattle.explain.specs.Winner.{is_of, Placed}
 use Rattle.explain.specs.Reason.{won, other_key, reason}
 use Rattle.explain.specs.Explain.{listed}
 
@@ -20,49 +15,44 @@ unfoldable pub entries_in : List ℕ → List Entry
 entries_in list = listed (deliveries_of list)
 
 abbrev pub Readable : List ℕ → Type 0
-Readable list = deliveries_of list ≡ some (entries_in list)
+Readable list = deliveries_of list ≡ Some (entries_in list)
 
--- what was seen of a delivery, as an entry: its key is not kept, since it has no part in the order
-abbrev pub seen_entry : List ℕ → Seen → Entry
-seen_entry list see = entry_of [] (field see.start (see.stop - see.start) list) see.flag see.stamp
+-- what a lent entry holds, if one is lent
+abbrev pub lent : Option lent_entry.Entry → Option Entry
+lent None = None
+lent (Some e) = Some (entry_in e)
 
--- its value lies within the list
-abbrev pub LiesIn : List ℕ → Seen → Type 0
-LiesIn list see = (see.start ≤ see.stop) × (see.stop ≤ length list)
+-- a delivery, if it is of the key
+abbrev pub if_of : List ℕ → Option Entry → Option Entry
+if_of k None = None
+if_of k (Some d) = cond (is_of k d) (Some d) None
 
 -- what is seen of the delivery at an offset, whatever the bytes are
-abbrev pub seen_in : List ℕ → ℕ → List ℕ → Cut → Seen
-seen_in list at k Nothing = record { matches = false; start = at; stop = at; flag = 0; stamp = least; next = length list }
-seen_in list at k (Delivery ka kl va vl f st e) =
-    record { matches = same_bytes k (field (at + ka) kl list); start = at + va; stop = at + va + vl; flag = f; stamp = st; next = at + e }
+unfoldable pub seen : List ℕ → ℕ → List ℕ → Option Entry
+seen list at k = if_of k (delivery_in (drop at list) (cut_unchecked (drop at list)))
 
-unfoldable pub seen : List ℕ → ℕ → List ℕ → Seen
-seen list at k = seen_in list at k (cut_unchecked (drop at list))
+-- where the next one begins
+abbrev pub end_in : List ℕ → ℕ → Option Delivery → ℕ
+end_in list at None = length list
+end_in list at (Some d) = at + d.end
 
--- two entries that differ in their keys at most
-pub record Alike (d e : Entry) : Type 0 where
-  pub value : d.value ≡ e.value
-  pub flag : d.flag ≡ e.flag
-  pub stamp : d.stamp ≡ e.stamp
+unfoldable pub behind : List ℕ → ℕ → ℕ
+behind list at = end_in list at (cut_unchecked (drop at list))
 
--- what is kept before a delivery of the key has come
-abbrev pub nothing_yet : Best
-nothing_yet = record { found = false; place = 0; seen = record { matches = false; start = 0; stop = 0; flag = 0; stamp = least; next = 0 } }
+-- the best delivery so far, with its place
+abbrev pub placed : Option Best → Option Placed
+placed None = None
+placed (Some b) = Some (record { place = b.place; entry = entry_in b.entry })
 
--- the best delivery so far, as it is kept
-abbrev pub Keeps : List ℕ → Option Placed → Best → Type 0
-Keeps list none best = best ≡ nothing_yet
-Keeps list (some w) best = (best.found ≡ true) × (best.place ≡ w.place) × Alike (seen_entry list best.seen) w.entry
+-- after what was seen at place i: a delivery of the key is the best so far if it is the first of it
+-- or beats the best before
+abbrev pub best_with : Option Placed → ℕ → Option Entry → Option Placed
+best_with o i None = o
+best_with None i (Some d) = Some (record { place = i; entry = d })
+best_with (Some w) i (Some d) = cond (beats d w.entry) (Some (record { place = i; entry = d })) (Some w)
 
--- a delivery is the best so far if it is of the key, and is the first of it or beats the best before
-unfoldable pub is_better : List ℕ → Best → Seen → Bool
-is_better list best see = see.matches && (not best.found || beats (seen_entry list see) (seen_entry list best.seen))
-
-unfoldable pub next_best : List ℕ → Best → ℕ → Seen → Best
-next_best list best i see = cond (is_better list best see) (record { found = true; place = i; seen = see }) best
-
-unfoldable pub byte_by : List ℕ → Best → ℕ → Seen → ℕ
-byte_by list best i see =
-    cond (not see.matches) other_key
-    (cond (eqb i best.place) won
-    (reason (seen_entry list best.seen) (seen_entry list see)))
+-- the byte of what was seen at place i
+abbrev pub byte_by : Option Placed → ℕ → Option Entry → ℕ
+byte_by o i None = other_key
+byte_by None i (Some d) = other_key
+byte_by (Some w) i (Some d) = cond (eqb i w.place) won (reason w.entry d)

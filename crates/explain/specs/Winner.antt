@@ -1,6 +1,5 @@
 -- Which delivery of a key wins.
-use Rattle.std.specs.Prelude.{ℕ, suc, Bool, true, cond, not, ◌&&◌, List, [], ◌∷◌}
-use Rattle.std.proofs.Math.Option.{Option, none, some}
+use Rattle.std.specs.Prelude.{ℕ, suc, Bool, true, cond, not, ◌&&◌, List, [], ◌∷◌, Option, None, Some}
 use Rattle.wire.specs.Order.{same_bytes}
 use Rattle.entry.specs.Entry.{Entry, beats}
 
@@ -21,8 +20,8 @@ pub record Placed : Type 0 where
 -- the first of some deliveries, from place i on, that is of the key and that none of all of them
 -- beats
 unfoldable pub first_unbeaten : List ℕ → List Entry → ℕ → List Entry → Option Placed
-first_unbeaten k all i [] = none
-first_unbeaten k all i (d ∷ ds) = cond (is_of k d && unbeaten k all d) (some (record { place = i; entry = d })) (first_unbeaten k all (suc i) ds)
+first_unbeaten k all i [] = None
+first_unbeaten k all i (d ∷ ds) = cond (is_of k d && unbeaten k all d) (Some (record { place = i; entry = d })) (first_unbeaten k all (suc i) ds)
 
 -- the winner: the first delivery of the key that no other of the key beats; none where no delivery
 -- is of the key (R248)

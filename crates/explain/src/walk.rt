@@ -1,162 +1,98 @@
 // Walks over a readable list: the winning delivery, and the byte of each.
 ghost use Rattle.std.specs.Prelude.{◌≡◌, ◌≤◌, length};
-ghost use Rattle.entry.specs.Entry.{beats};
+ghost use Rattle.entry.specs.Entry.{entry_in};
 ghost use Rattle.explain.specs.Winner.{winner};
-ghost use Rattle.explain.specs.Reason.{reason};
+ghost use Rattle.explain.specs.Reason.{byte, reason};
 ghost use Rattle.explain.specs.Explain.{reported};
-ghost use Rattle.explain.specs.Walk.{entries_in, Readable, LiesIn, seen, seen_entry, is_better, next_best, Keeps, byte_by};
+ghost use Rattle.explain.specs.Walk.{entries_in, Readable, seen, behind, lent, placed, best_with, byte_by};
 
-use deliveries::{Cut, cut_unchecked};
-use entry::{Stamp, beats};
+use deliveries::cut_unchecked;
+use entry::Entry;
 use wire::same;
 
-const WON: u8 = 0;
+// Why a delivery lost, or that it won or is of another key; as a byte it is its number.
+#[derive(Clone, Copy, Debug, PartialEq, Eq)]
+pub(crate) enum Reason {
+    Won = 0,
+    EarlierTime = 1,
+    LowerCount = 2,
+    LowerNode = 3,
+    SameEntry = 4,
+    OtherKey = 5,
+    LowerContent = 6,
+}
 
-const EARLIER_TIME: u8 = 1;
+impl From<Reason> for u8 {
+    ghost from_gives = { λ reason n. n ≡ byte reason };
 
-const LOWER_COUNT: u8 = 2;
+    fn from(reason: Reason) -> u8 {
+        reason as u8
+    }
+}
 
-const LOWER_NODE: u8 = 3;
-
-const SAME_ENTRY: u8 = 4;
-
-const OTHER_KEY: u8 = 5;
-
-const LOWER_CONTENT: u8 = 6;
-
-// What a walk sees of a delivery: whether it is of the key, where its value stands in the list, its
-// flag and stamp, and where the next one begins.
+// What a walk sees of a delivery: its entry, if it is of the key, and where the next one begins.
 #[derive(Clone, Copy)]
-pub(crate) struct Seen {
-    pub(crate) matches: bool,
-    pub(crate) start: usize,
-    pub(crate) stop: usize,
-    pub(crate) flag: u8,
-    pub(crate) stamp: Stamp,
+pub(crate) struct Seen<'a> {
+    pub(crate) entry: Option<Entry<'a>>,
     pub(crate) next: usize,
 }
 
-// The best delivery so far, if one of the key has come: its place, and what was seen of it.
+// The best delivery of the key so far, and its place.
 #[derive(Clone, Copy)]
-pub(crate) struct Best {
-    pub(crate) found: bool,
+pub(crate) struct Best<'a> {
     pub(crate) place: usize,
-    pub(crate) seen: Seen,
+    pub(crate) entry: Entry<'a>,
 }
 
-// What is seen of the delivery at an offset. Bytes that do not begin with one match no key, and are
-// passed over whole.
-pub(crate) fn peek(list: &[u8], at: usize, key: &[u8]) -> Seen
+// What is seen of the delivery at an offset. Bytes that do not begin with one are of no key, and
+// are passed over whole.
+pub(crate) fn peek<'a>(list: &'a [u8], at: usize, key: &[u8]) -> Seen<'a>
     requires { at ≤ length list.now }
-    ensures { (result ≡ seen list.now at key.now) × LiesIn list.now result × (result.next ≤ length list.now) }
+    ensures entry { lent result.entry ≡ seen list.now at key.now }
+    ensures next { (result.next ≡ behind list.now at) × (result.next ≤ length list.now) }
 {
-    let front = cut_unchecked(&list[at..]);
-    let Cut::Delivery {
-        key_at,
-        key_len,
-        value_at,
-        value_len,
-        flag,
-        stamp,
-        end,
-    } = front
-    else {
+    let rest = &list[at..];
+    let Some(front) = cut_unchecked(rest) else {
         return Seen {
-            matches: false,
-            start: at,
-            stop: at,
-            flag: 0,
-            stamp: Stamp::LEAST,
+            entry: None,
             next: list.len(),
         };
     };
-    let key_start = at + key_at;
-    let key_stop = key_start + key_len;
-    let matches = same(key, &list[key_start..key_stop]);
-    let start = at + value_at;
-    let stop = start + value_len;
-    let next = at + end;
+    let entry = front.entry.of(rest);
     Seen {
-        matches,
-        start,
-        stop,
-        flag,
-        stamp,
-        next,
+        entry: same(key, entry.key).then_some(entry),
+        next: at + front.end,
     }
 }
 
-// Whether `one` beats `other`, two deliveries of a key that were seen.
-fn beats_seen(list: &[u8], one: Seen, other: Seen) -> bool
-    requires { LiesIn list.now one × LiesIn list.now other }
-    ensures { result ≡ beats (seen_entry list.now one) (seen_entry list.now other) }
+// The best so far after the delivery at a place was seen: it, if it is of the key, and is the first
+// of it or beats the best before it.
+fn best_with<'a>(best: Option<Best<'a>>, place: usize, seen: Option<Entry<'a>>) -> Option<Best<'a>>
+    ensures { placed result ≡ best_with (placed best.entry) place (lent seen.entry) }
 {
-    let start = one.start;
-    let stop = one.stop;
-    let other_start = other.start;
-    let other_stop = other.stop;
-    beats(
-        &list[start..stop],
-        one.flag,
-        one.stamp,
-        &list[other_start..other_stop],
-        other.flag,
-        other.stamp,
-    )
-}
-
-// Whether a delivery is the best so far: it is of the key, and is the first of it or beats the best
-// before it.
-fn is_better(list: &[u8], best: Best, seen: Seen) -> bool
-    requires { LiesIn list.now best.seen × LiesIn list.now seen }
-    ensures { result ≡ is_better list.now best seen }
-{
-    if !seen.matches {
-        return false;
-    }
-    if !best.found {
-        return true;
-    }
-    beats_seen(list, seen, best.seen)
-}
-
-// The best so far after the delivery at a place was seen.
-fn next_best(list: &[u8], best: Best, place: usize, seen: Seen) -> Best
-    requires { LiesIn list.now best.seen × LiesIn list.now seen }
-    ensures { (result ≡ next_best list.now best place seen) × LiesIn list.now result.seen }
-{
-    if !is_better(list, best, seen) {
+    let Some(entry) = seen else {
         return best;
+    };
+    if let Some(held) = best {
+        if !entry.beats(held.entry) {
+            return best;
+        }
     }
-    Best {
-        found: true,
-        place,
-        seen,
-    }
+    Some(Best { place, entry })
 }
 
 // The winning delivery of a readable list.
-pub(crate) fn find_winner(list: &[u8], key: &[u8]) -> Best
+pub(crate) fn find_winner<'a>(list: &'a [u8], key: &[u8]) -> Option<Best<'a>>
     requires { Readable list.now }
-    ensures { Keeps list.now (winner key.now (entries_in list.now)) result × LiesIn list.now result.seen }
+    ensures { placed result ≡ winner key.now (entries_in list.now) }
 {
-    let mut best = Best {
-        found: false,
-        place: 0,
-        seen: Seen {
-            matches: false,
-            start: 0,
-            stop: 0,
-            flag: 0,
-            stamp: Stamp::LEAST,
-            next: 0,
-        },
-    };
-    let mut at: usize = 0;
-    let mut place: usize = 0;
+    let mut best = None;
+    let mut at = 0;
+    let mut place = 0;
+    // a walk over frames of varying length: it counts no index
     while at < list.len() {
         let seen = peek(list, at, key);
-        best = next_best(list, best, place, seen);
+        best = best_with(best, place, seen.entry);
         at = seen.next;
         place += 1;
     }
@@ -165,50 +101,51 @@ pub(crate) fn find_winner(list: &[u8], key: &[u8]) -> Best
 
 // Why a delivery of the key lost to the winner: the first field of the stamp in which they differ,
 // or its lower contents; or it is the winner's entry again.
-fn reason(list: &[u8], winner: Seen, seen: Seen) -> u8
-    requires { LiesIn list.now winner × LiesIn list.now seen }
-    ensures { result ≡ reason (seen_entry list.now winner) (seen_entry list.now seen) }
+fn reason_for(winner: Entry<'_>, entry: Entry<'_>) -> Reason
+    ensures { byte result ≡ reason (entry_in winner.entry) (entry_in entry.entry) }
 {
-    if seen.stamp.phys != winner.stamp.phys {
-        return EARLIER_TIME;
+    if entry.stamp.phys != winner.stamp.phys {
+        return Reason::EarlierTime;
     }
-    if seen.stamp.logical != winner.stamp.logical {
-        return LOWER_COUNT;
+    if entry.stamp.logical != winner.stamp.logical {
+        return Reason::LowerCount;
     }
-    if seen.stamp.node != winner.stamp.node {
-        return LOWER_NODE;
+    if entry.stamp.node != winner.stamp.node {
+        return Reason::LowerNode;
     }
-    if beats_seen(list, winner, seen) {
-        return LOWER_CONTENT;
+    if winner.beats(entry) {
+        return Reason::LowerContent;
     }
-    SAME_ENTRY
+    Reason::SameEntry
 }
 
-// The byte of the delivery at a place.
-fn byte_of(list: &[u8], best: Best, place: usize, seen: Seen) -> u8
-    requires { LiesIn list.now best.seen × LiesIn list.now seen }
-    ensures { result ≡ byte_by list.now best place seen }
+// What the report says of the delivery at a place.
+fn reason_at(best: Option<Best<'_>>, place: usize, seen: Option<Entry<'_>>) -> Reason
+    ensures { byte result ≡ byte_by (placed best.entry) place (lent seen.entry) }
 {
-    if !seen.matches {
-        return OTHER_KEY;
-    }
+    let (Some(best), Some(entry)) = (best, seen) else {
+        return Reason::OtherKey;
+    };
     if place == best.place {
-        return WON;
+        return Reason::Won;
     }
-    reason(list, best.seen, seen)
+    reason_for(best.entry, entry)
 }
 
 // Writes the byte of each delivery of a readable list to the front of `reasons`.
-pub(crate) fn write_reasons(list: &[u8], key: &[u8], best: Best, reasons: &mut [u8])
+// It walks as `find_winner` does, with another body: with a closure for the body the facts that the
+// walk keeps would stand in its contract, so it is no plainer.
+pub(crate) fn write_reasons(list: &[u8], key: &[u8], best: Option<Best<'_>>, reasons: &mut [u8])
     requires { Readable list.now × (length (entries_in list.now) ≤ length reasons.old)
-        × Keeps list.now (winner key.now (entries_in list.now)) best × LiesIn list.now best.seen }
+        × (placed best ≡ winner key.now (entries_in list.now)) }
     ensures { reasons.new ≡ reported key.now (entries_in list.now) reasons.old }
 {
-    let mut at: usize = 0;
-    let mut place: usize = 0;
+    let mut at = 0;
+    let mut place = 0;
+    // a walk over frames of varying length: it counts no index
     while at < list.len() {
         let seen = peek(list, at, key);
-        reasons[place] = byte_of(list, best, place, seen);
+        reasons[place] = u8::from(reason_at(best, place, seen.entry));
         at = seen.next;
         place += 1;
     }

@@ -13,7 +13,10 @@ use Rattle.wire.specs.Number.{be}
 use Rattle.wire.specs.Fill.{field}
 use Rattle.wire.proofs.Number.{length-be}
 use Rattle.wire.proofs.Tests.{test, or-false}
+use Rattle.std.specs.Prelude.{Result, Ok, Err, IfOk}
+use Rattle.entry.specs.declared.Refusal.{Refusal}
 use Rattle.entry.specs.declared.Stamp.{Stamp}
+use Rattle.entry.specs.Acceptance.{refusal_number}
 use Rattle.entry.specs.Key.{bad_key}
 use Rattle.entry.specs.Order.{least}
 use Rattle.entry.specs.Entry.{Entry, entry_of, bad_flag, refusal_of}
@@ -22,8 +25,8 @@ use Rattle.frame.specs.Message.{Message, put, get, del, repl, ok, value, not_fou
 use Rattle.frame.specs.Message.{InRange}
 use Rattle.frame.specs.Layout.{max_body, counted, stamp_bytes, type_of, body}
 use Rattle.frame.specs.declared.answer.Message.{Message as Located}
-use Rattle.frame.specs.declared.answer.Message.TheVariants.{Repl}
-use Rattle.frame.specs.Reading.{message, message_in, meaning, number_at, klen, vlen, stamp_in, ends_at, key_ends, value_ends, judged_as, checked, read_body}
+use Rattle.frame.specs.Reading.{message, message_in, meaning, number_at, klen, vlen, stamp_in, ends_at, key_ends, value_ends, judged_as, checked}
+use Rattle.frame.specs.Reading.{repl_in, read_body}
 use Rattle.frame.proofs.Fields.{field_inside, number_inside}
 use Rattle.frame.proofs.Envelopes.{Framed}
 
@@ -90,6 +93,11 @@ unfolding key_fault value_fault
 entry_short e h =
     let t = taken (repl e) (repl_refusal e ∙ h) in
     (key_short e.key t.key, ltb-false 512 (length e.value) t.value)
+
+-- so is what an entry is judged by
+pub short_if_ok : (e : Entry) (r : Result Unit Refusal) → refusal_number r ≡ refusal_of e → IfOk r (λ u. (length e.key ≤ 64) × (length e.value ≤ 512))
+short_if_ok e (Ok u) h = entry_short e (sym h)
+short_if_ok e (Err x) h = tt
 
 -- ---- lengths
 pub length-counted : (w : ℕ) (s : List ℕ) → length (counted w s) ≡ w + length s
@@ -248,7 +256,7 @@ module _ (s : List ℕ) (e : Entry) (f : Framed s (body (repl e))) (t : Taken (r
   unfolding body
   repl_ends = value_ends_in s _ f (klen s + 15) (klen s + 17) at_value e.value refl length_at_value (omega arith) small
 
-  repl_in_lem : message_in s (Repl 5 (klen s) (klen s + 17) (vlen (klen s + 15) s) (number_at (klen s + 5) 1 s) (stamp_in (klen s + 6) s)) ≡ repl e
+  repl_in_lem : message_in s (repl_in s) ≡ repl e
   unfolding body
   repl_in_lem =
       let v = value_in_lem s _ f (klen s + 15) (klen s + 17) at_value e.value refl length_at_value (omega arith) small in

@@ -10,6 +10,7 @@ use lib.Seq.{length-take-le, drop-cons, drop-drop, drop_at, set_at, append_snoc}
 use lib.Dec.{eqb}
 use borrow.Author.Tests.{lt-ltb, le-ltb}
 use borrow.Rule.Slice.PartMut.{mid_of, put_mid}
+use Rattle.std.specs.Prelude.{Ok, Err}
 use Rattle.wire.specs.Number.{be}
 use Rattle.wire.specs.Fill.{field}
 use Rattle.wire.proofs.Number.{length-be}
@@ -19,8 +20,6 @@ use Rattle.checksum.specs.Crc32c.{crc32c}
 use Rattle.entry.specs.declared.Refusal.{Refusal}
 use Rattle.entry.specs.declared.Refusal.TheVariants.{NoRoom}
 use Rattle.entry.specs.Refusal.{number}
-use Rattle.frame.specs.declared.answer.Wrote.{Wrote}
-use Rattle.frame.specs.declared.answer.Wrote.TheVariants.{Bytes, Refused}
 use Rattle.frame.specs.Layout.{envelope}
 use Rattle.frame.specs.Writing.{answer_of, write_refusal, write_answer, after_write, WritesFrame, Sealed}
 use Rattle.frame.proofs.Fields.{field_inside}
@@ -86,7 +85,7 @@ module _ (t n : ℕ) (s₀ s : List ℕ) (room : n + 8 ≤ length s₀) (w : Wri
       (omega arith))
 
   pub frame_sealed : (sum : ℕ) (ys : List ℕ) → sum ≡ crc32c (take (n + 4 - 2) (drop 2 s)) → ys ≡ be (length (mid_of (n + 4) (n + 8 - (n + 4)) s)) sum
-      → Sealed t n s₀ (Bytes (n + 8)) (put_mid (n + 4) (n + 8 - (n + 4)) s ys)
+      → Sealed t n s₀ (n + 8) (put_mid (n + 4) (n + 8 - (n + 4)) s ys)
   unfolding envelope
   frame_sealed sum ys se ye =
       let i : 4 + n ≡ n + 4 = omega arith in
@@ -99,23 +98,23 @@ module _ (t n : ℕ) (s₀ s : List ℕ) (room : n + 8 ≤ length s₀) (w : Wri
 
 -- ---- a writer's answers
 module _ (n : ℕ) (f out : List ℕ) where
-  pub frame_refused : (r : Refusal) → number r ≡ n → WritesFrame n f out (Refused r) out
+  pub frame_refused : (r : Refusal) → number r ≡ n → WritesFrame n f out (Err r) out
   unfolding write_answer after_write write_refusal
   frame_refused r e =
       let z : eqb n 0 ≡ false = rw e at (number_not_0 r) in
       record { answer = rw (e, z, z); buffer = rw (z, z) }
 
-  pub frame_no_room : n ≡ 0 → length out < length f → WritesFrame n f out (Refused NoRoom) out
+  pub frame_no_room : n ≡ 0 → length out < length f → WritesFrame n f out (Err NoRoom) out
   unfolding write_answer after_write write_refusal
   frame_no_room e h = record { answer = rw (e, lt-ltb (length out) (length f) h); buffer = rw (e, lt-ltb (length out) (length f) h) }
 
-  pub frame_written : n ≡ 0 → length f ≤ length out → WritesFrame n f out (Bytes (length f)) (f ++ drop (length f) out)
+  pub frame_written : n ≡ 0 → length f ≤ length out → WritesFrame n f out (Ok (length f)) (f ++ drop (length f) out)
   unfolding write_answer after_write write_refusal
   frame_written e h = record { answer = rw (e, le-ltb (length out) (length f) h); buffer = rw (e, le-ltb (length out) (length f) h) }
 
 -- a body that was put into its frame
-pub sealed-written : (n t k : ℕ) (b out s after : List ℕ) (r : Wrote) → n ≡ 0 → length b ≡ k → k + 8 ≤ length out → Written (k + 4) (take 4 out ++ b) out s
-    → Sealed t k s r after → WritesFrame n (envelope t b) out r after
+pub sealed-written : (n t k : ℕ) (b out s after : List ℕ) (r : ℕ) → n ≡ 0 → length b ≡ k → k + 8 ≤ length out → Written (k + 4) (take 4 out ++ b) out s
+    → Sealed t k s r after → WritesFrame n (envelope t b) out (Ok r) after
 sealed-written n t k b out s after r z h room w sealed =
     let l = length-envelope t b in
     let m : k + 8 ≡ length (envelope t b) = omega arith in
@@ -126,13 +125,13 @@ sealed-written n t k b out s after r z h room w sealed =
     let rest : drop (k + 8) s ≡ drop (k + 8) out = rw (q, ← drop-drop 4 (k + 4) s, ← drop-drop 4 (k + 4) out, past) in
     let j = frame_written n (envelope t b) out z (omega arith) in
     record {
-      answer = ap answer_of (sealed.answer ∙ ap Bytes m) ∙ j.answer;
+      answer = ap (λ (i : ℕ). answer_of (Ok i)) (sealed.answer ∙ m) ∙ j.answer;
       buffer = sealed.buffer ∙ ap₂ (λ (x y : List ℕ). envelope t x ++ y) body rest ∙ ap (λ (i : ℕ). envelope t b ++ drop i out) m ∙ j.buffer;
     }
 
 -- a body f k that was written at place 4, and then put into its frame
-pub body-written : (f : ℕ → List ℕ) (n t k : ℕ) (out ys after : List ℕ) (r : Wrote) → n ≡ 0 → length (f k) ≡ k → k + 8 ≤ length out
-    → ys ≡ f (length (mid_of 4 (k + 4 - 4) out)) → Sealed t k (put_mid 4 (k + 4 - 4) out ys) r after → WritesFrame n (envelope t (f k)) out r after
+pub body-written : (f : ℕ → List ℕ) (n t k : ℕ) (out ys after : List ℕ) (r : ℕ) → n ≡ 0 → length (f k) ≡ k → k + 8 ≤ length out
+    → ys ≡ f (length (mid_of 4 (k + 4 - 4) out)) → Sealed t k (put_mid 4 (k + 4 - 4) out ys) r after → WritesFrame n (envelope t (f k)) out (Ok r) after
 body-written f n t k out ys after r z h room ye sealed =
     sealed-written n t k (f k) out _ after r z h room (write_part f 4 k (k + 4) (take 4 out) out out ys (omega arith) (omega arith) h
     (write_front out (omega arith)) ye) sealed

@@ -1,17 +1,16 @@
 -- The reader's tests: what each shows of the frame or of the body.
-use mathlib.Core.Path.{◌≡◌, refl, sym, ap, ◌∙◌}
+use mathlib.Core.Path.{◌≡◌, sym, ap, ◌∙◌}
 use mathlib.Core.Logic.{inl, inr}
 use mathlib.Core.Bool.{true, false, not}
 use mathlib.Core.List.{List, []}
 use Prim.Native.Nat.{ℕ, ◌+◌, ◌-◌, ◌^◌, ◌≤◌, ◌<◌}
 use native.Mathlib.Omega.{arith}
-use lib.ListN.{length, take, drop, length-take}
+use lib.ListN.{length, take, drop}
 use lib.Dec.{ltb, eqb}
 use borrow.Author.Tests.{lt-ltb, le-ltb, le-leb, eq-eqb, ne_eqb, ltb-true, ltb-false, eqb-true, eqb-false}
 use Rattle.wire.specs.Number.{be, num, Bytes}
 use Rattle.wire.specs.Fill.{field}
-use Rattle.wire.proofs.Number.{num-be, num_whole}
-use Rattle.wire.proofs.Fields.{field_between}
+use Rattle.wire.proofs.Number.{num-be}
 use Rattle.wire.proofs.Order.{same_bytes_refl}
 use Rattle.wire.proofs.Tests.{test, false_of}
 use Rattle.checksum.specs.Crc32c.{crc32c}
@@ -28,12 +27,6 @@ eqb_both a b c d f g = elim (test (eqb a b)) [
   | inl p ↦ p ∙ sym (eq-eqb c d (f (eqb-true a b p)))
   | inr p ↦ p ∙ sym (ne_eqb c d (λ q. eqb-false a b p (g q)))
 ]
-
--- ---- parts of a slice
-pub number_part : (at w : ℕ) (s : List ℕ) → w ≤ 8 → num (take 8 (take (at + w - at) (drop at s))) ≡ number_at at w s
-unfolding number_at field
-number_part at w s h =
-    ap (λ (r : List ℕ). num (take 8 r)) (field_between at w (at + w) s refl) ∙ num_whole (field at w s) (omega (arith, length-take w (drop at s)))
 
 -- ---- the envelope
 pub fails : (s : List ℕ) → (Holding s → ⊥) → false ≡ envelope_holds s

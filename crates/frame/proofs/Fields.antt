@@ -43,3 +43,8 @@ module _ (s : List ℕ) (bs : Bytes s) (at w : ℕ) where
   pub be-number : at + w ≤ length s → be w (number_at at w s) ≡ field at w s
   unfolding number_at
   be-number h = fields.be-field at w s bs h
+
+-- what the code reads at an offset
+pub number_read : (r at w : ℕ) (s : List ℕ) → r ≡ num (field at w s) → r ≡ number_at at w s
+unfolding number_at
+number_read r at w s h = h

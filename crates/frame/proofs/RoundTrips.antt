@@ -9,6 +9,7 @@ use lib.ListN.{length, drop}
 use lib.Seq.{take_at}
 use lib.Dec.{ltb, eqb}
 use borrow.Author.Tests.{le-ltb, lt-leb, ltb-false, eqb-true}
+use Rattle.std.specs.Prelude.{Result, Ok, Err}
 use Rattle.wire.specs.Number.{be, Bytes}
 use Rattle.wire.specs.Fill.{field}
 use Rattle.wire.proofs.Fill.{length-field}
@@ -17,22 +18,18 @@ use Rattle.entry.specs.declared.Refusal.{Refusal}
 use Rattle.entry.specs.Refusal.{number}
 use Rattle.entry.specs.declared.Refusal.TheVariants.{BadKey, ValueTooLarge, BadFrame}
 use Rattle.frame.specs.declared.answer.Message.{Message as Located}
-use Rattle.frame.specs.declared.answer.Message.TheVariants.{Get, Del, Ok, Value, NotFound, Err}
-use Rattle.frame.specs.declared.answer.Read.{Read}
-use Rattle.frame.specs.declared.answer.Read.TheVariants.{Message as Said, Refused}
-use Rattle.frame.specs.declared.answer.Wrote.{Wrote}
-use Rattle.frame.specs.declared.answer.Wrote.TheVariants.{Bytes as BytesWrote, Refused as RefusedWrote}
+use Rattle.frame.specs.declared.answer.Message.TheVariants.{Get, Del, Ok as OkMessage, Value, NotFound, Err as ErrMessage}
 use Rattle.frame.specs.Message.{Message, repl, time_fault, key_fault, value_fault, argument_fault, message_refusal, InRange}
 use Rattle.frame.specs.Layout.{counted, stamp_bytes, type_of, body, envelope, frame_of}
 use Rattle.frame.specs.Reading.{message, refused, message_in, meaning, number_at, envelope_holds, type_in, klen, vlen, stamp_in, ends_at, key_ends, value_ends}
-use Rattle.frame.specs.Reading.{judged_as, checked, read_body, read_answer, read_frame}
+use Rattle.frame.specs.Reading.{span, judged_as, checked, put_in, repl_in, read_body, read_answer, read_frame}
 use Rattle.frame.specs.Writing.{bytes, answer_of, write_refusal, write_answer, after_write, Writes}
 use Rattle.frame.specs.Meaning.{Within, ReadLiesWithin, ReadHasType, ReadRefusals, WrittenReadsBack, ReadWritesBack, ReadIsTaken, FrameAtMost600}
 use Rattle.frame.specs.Meaning.{UncheckedReadsRepl, UncheckedLiesWithin, WrittenWhole, FrontReadsBack}
 use Rattle.frame.proofs.Fields.{field_join, number_lt, be-number}
 use Rattle.frame.proofs.Envelopes.{length-envelope, framed, envelope_reads, envelope_writes}
 use Rattle.frame.proofs.Bodies.{taken, body_short, body_reads}
-use Rattle.frame.proofs.ByType.{either, put_in, repl_in, by_type}
+use Rattle.frame.proofs.ByType.{either, by_type}
 use Rattle.frame.proofs.Answers.{ends_length}
 
 -- ---- what was written
@@ -56,7 +53,7 @@ pub record Clean (s : List ℕ) (w : Bool) (l : Located) : Type 0 where
   pub value : value_fault (message_in s l) ≡ false
 
 -- is answered; any other is refused
-cases : (s : List ℕ) (w : Bool) (l : Located) → (Clean s w l × (checked s w l ≡ Said l)) ⊎ ((r : Refusal) × (checked s w l ≡ Refused r))
+cases : (s : List ℕ) (w : Bool) (l : Located) → (Clean s w l × (checked s w l ≡ Ok l)) ⊎ ((r : Refusal) × (checked s w l ≡ Err r))
 unfolding checked judged_as
 cases s w l = elim (test w) [
   | inl p ↦ elim (test (argument_fault (message_in s l))) [
@@ -74,7 +71,7 @@ cases s w l = elim (test w) [
 
 -- the message of an answer
 module _ (s : List ℕ) (m : Message) where
-  no_message : {A : Type 0} (r : Refusal) → meaning s (Refused r) ≡ message m → A
+  no_message : {A : Type 0} (r : Refusal) → meaning s (Err r) ≡ message m → A
   no_message r h = never (cc)
 
   said : (w : Bool) (l : Located) → meaning s (checked s w l) ≡ message m → Clean s w l × (message_in s l ≡ m)
@@ -91,13 +88,13 @@ module _ (s : List ℕ) (m : Message) where
   unfolding type_of
   type_by_type t = by_type (λ r. meaning s r ≡ message m → type_of m ≡ t) s t (record {
     put = has_type t 1 _ (put_in s) refl;
-    get = has_type t 2 _ (Get 5 (klen s)) refl;
-    del = has_type t 3 _ (Del 5 (klen s)) refl;
+    get = has_type t 2 _ (Get (span 5 (klen s))) refl;
+    del = has_type t 3 _ (Del (span 5 (klen s))) refl;
     repl = has_type t 4 _ (repl_in s) refl;
-    ok = has_type t 16 _ Ok refl;
-    value = has_type t 17 _ (Value 6 (vlen 4 s)) refl;
+    ok = has_type t 16 _ OkMessage refl;
+    value = has_type t 17 _ (Value (span 6 (vlen 4 s))) refl;
     not_found_lem = has_type t 18 _ NotFound refl;
-    err = has_type t 20 _ (Err (number_at 4 1 s)) refl;
+    err = has_type t 20 _ (ErrMessage (number_at 4 1 s)) refl;
     unknown = no_message BadFrame;
   })
 
@@ -114,27 +111,27 @@ pub read_has_type : ReadHasType
 read_has_type s m h = type_by_type s m (type_in s) (read_body_lem s m h)
 
 module _ (s : List ℕ) (m : Located) where
-  not_said : {A : Type 0} (r : Refusal) → Refused r ≡ Said m → A
+  not_said : {A : Type 0} (r : Refusal) → Err r ≡ Ok m → A
   not_said r h = never (cc)
 
   -- its parts lie within the frame
-  lies : (w : Bool) (l : Located) → (w ≡ true → Within s l) → checked s w l ≡ Said m → Within s m
+  lies : (w : Bool) (l : Located) → (w ≡ true → Within s l) → checked s w l ≡ Ok m → Within s m
   lies w l k h = elim (cases s w l) [
     | inl c ↦ let e : l ≡ m = cc in rw (← e) (k c.0.used_up)
     | inr c ↦ not_said c.0 (sym c.1 ∙ h)
   ]
 
-  lies_by_type : (t : ℕ) → read_body t s ≡ Said m → Within s m
+  lies_by_type : (t : ℕ) → read_body t s ≡ Ok m → Within s m
   unfolding key_ends ends_at
-  lies_by_type t = by_type (λ r. r ≡ Said m → Within s m) s t (record {
+  lies_by_type t = by_type (λ r. r ≡ Ok m → Within s m) s t (record {
     put = λ e. lies _ (put_in s) (λ w. let n = ends_length (klen s + 5) (klen s + 7) s (omega arith) w in (omega arith, omega arith));
-    get = λ e. lies _ (Get 5 (klen s)) (λ w. omega (arith, eqb-true (length s) (klen s + 5 + 4) w));
-    del = λ e. lies _ (Del 5 (klen s)) (λ w. omega (arith, eqb-true (length s) (klen s + 5 + 4) w));
+    get = λ e. lies _ (Get (span 5 (klen s))) (λ w. omega (arith, eqb-true (length s) (klen s + 5 + 4) w));
+    del = λ e. lies _ (Del (span 5 (klen s))) (λ w. omega (arith, eqb-true (length s) (klen s + 5 + 4) w));
     repl = λ e. lies _ (repl_in s) (λ w. let n = ends_length (klen s + 15) (klen s + 17) s (omega arith) w in (omega arith, omega arith));
-    ok = λ e. lies _ Ok (λ w. tt);
-    value = λ e. lies _ (Value 6 (vlen 4 s)) (λ w. omega (arith, ends_length 4 6 s refl w));
+    ok = λ e. lies _ OkMessage (λ w. tt);
+    value = λ e. lies _ (Value (span 6 (vlen 4 s))) (λ w. omega (arith, ends_length 4 6 s refl w));
     not_found_lem = λ e. lies _ NotFound (λ w. tt);
-    err = λ e. lies _ (Err (number_at 4 1 s)) (λ w. tt);
+    err = λ e. lies _ (ErrMessage (number_at 4 1 s)) (λ w. tt);
     unknown = not_said BadFrame;
   })
 
@@ -154,9 +151,9 @@ pub unchecked_lies_within : UncheckedLiesWithin
 unchecked_lies_within s m = lies_by_type s m 4
 
 -- ---- a refusal
-abbrev IsFew : Read → Type 0
-IsFew (Said m) = Unit {0}
-IsFew (Refused r) = (1 ≤ number r) × (number r ≤ 3)
+abbrev IsFew : Result Located Refusal → Type 0
+IsFew (Ok m) = Unit {0}
+IsFew (Err r) = (1 ≤ number r) × (number r ≤ 3)
 
 few_checked : (s : List ℕ) (w : Bool) (l : Located) → IsFew (checked s w l)
 unfolding checked judged_as
@@ -182,9 +179,9 @@ few_read s = either IsFew (envelope_holds s) _ _
     }))
     (omega arith)
 
-few_of : (s : List ℕ) (r : Read) (n : ℕ) → IsFew r → meaning s r ≡ refused n → (1 ≤ n) × (n ≤ 3)
-few_of s (Said m) n f h = never (cc)
-few_of s (Refused r) n f h = let e : number r ≡ n = cc in rw (← e) f
+few_of : (s : List ℕ) (r : Result Located Refusal) (n : ℕ) → IsFew r → meaning s r ≡ refused n → (1 ≤ n) × (n ≤ 3)
+few_of s (Ok m) n f h = never (cc)
+few_of s (Err r) n f h = let e : number r ≡ n = cc in rw (← e) f
 
 pub read_refusals : ReadRefusals
 unfolding read_frame
@@ -285,13 +282,13 @@ module _ (s : List ℕ) (bs : Bytes s) where
     unfolding body time_fault
     again_by_type t = by_type (λ r. meaning s r ≡ message m → Again s m) s t (record {
       put = λ e. again _ (put_in s) put_again (λ w. record { time = refl; range = tt });
-      get = λ e. again _ (Get 5 (klen s)) key_alone_again (λ w. record { time = refl; range = tt });
-      del = λ e. again _ (Del 5 (klen s)) key_alone_again (λ w. record { time = refl; range = tt });
+      get = λ e. again _ (Get (span 5 (klen s))) key_alone_again (λ w. record { time = refl; range = tt });
+      del = λ e. again _ (Del (span 5 (klen s))) key_alone_again (λ w. record { time = refl; range = tt });
       repl = λ e. again _ (repl_in s) repl_again repl_rest;
-      ok = λ e. again _ Ok empty_again (λ w. record { time = refl; range = tt });
-      value = λ e. again _ (Value 6 (vlen 4 s)) value_alone_again (λ w. record { time = refl; range = tt });
+      ok = λ e. again _ OkMessage empty_again (λ w. record { time = refl; range = tt });
+      value = λ e. again _ (Value (span 6 (vlen 4 s))) value_alone_again (λ w. record { time = refl; range = tt });
       not_found_lem = λ e. again _ NotFound empty_again (λ w. record { time = refl; range = tt });
-      err = λ e. again _ (Err (number_at 4 1 s)) err_again (λ w. record { time = refl; range = tt });
+      err = λ e. again _ (ErrMessage (number_at 4 1 s)) err_again (λ w. record { time = refl; range = tt });
       unknown = no_message s m BadFrame;
     })
 
@@ -308,9 +305,9 @@ pub read_is_taken : ReadIsTaken
 read_is_taken s m bs h = let r = read_again s m bs h in (r.taken, r.range)
 
 -- ---- a buffer
-is_bytes : (r : Wrote) (n : ℕ) → answer_of r ≡ bytes n → r ≡ BytesWrote n
-is_bytes (BytesWrote k) n h = cc
-is_bytes (RefusedWrote k) n h = cc
+is_bytes : (r : Result ℕ Refusal) (n : ℕ) → answer_of r ≡ bytes n → r ≡ Ok n
+is_bytes (Ok k) n h = cc
+is_bytes (Err k) n h = cc
 
 pub written_whole : WrittenWhole
 unfolding write_answer after_write write_refusal
@@ -319,7 +316,7 @@ written_whole m out r after h l w =
     (is_bytes r _ (w.answer ∙ rw (h, n)), w.buffer ∙ rw (h, n))
 
 -- an answer that counts bytes is that of a message that is taken, in a buffer with room
-counted_bytes : (m : Message) (out : List ℕ) (n : ℕ) (after : List ℕ) → Writes m out (BytesWrote n) after
+counted_bytes : (m : Message) (out : List ℕ) (n : ℕ) (after : List ℕ) → Writes m out (Ok n) after
     → (message_refusal m ≡ 0) × (length (frame_of m) ≤ length out)
 unfolding write_answer write_refusal
 counted_bytes m out n after w =
@@ -335,6 +332,6 @@ counted_bytes m out n after w =
 pub front_reads_back : FrontReadsBack
 front_reads_back m out n after i w =
     let k = counted_bytes m out n after w in
-    let f = written_whole m out (BytesWrote n) after k.0 k.1 w in
+    let f = written_whole m out (Ok n) after k.0 k.1 w in
     let e : n ≡ length (frame_of m) = cc in
     ap read_frame (rw (e, f.1) (take_at (frame_of m) (drop (length (frame_of m)) out) (length (frame_of m)) refl)) ∙ written_reads_back m k.0 i

@@ -3,6 +3,8 @@ use Rattle.std.specs.Prelude.{ℕ, ◌+◌, ◌-◌, List, [], ◌∷◌, ◌++�
 use Rattle.wire.specs.Number.{be}
 use Rattle.checksum.specs.Crc32c.{crc32c}
 use Rattle.entry.specs.declared.Stamp.{Stamp}
+use Rattle.frame.specs.declared.kind.Kind.{Kind}
+use Rattle.frame.specs.declared.kind.Kind.TheVariants as kind
 use Rattle.frame.specs.Message.{Message, put, get, del, repl, ok, value, not_found, err}
 
 -- the longest frame, in bytes (R49)
@@ -32,6 +34,17 @@ value_bytes v = counted 2 v
 -- phys(6) logical(2) node(1) (R56)
 unfoldable pub stamp_bytes : Stamp → List ℕ
 stamp_bytes s = be 6 s.phys ++ be 2 s.logical ++ be 1 s.node
+
+-- TYPE of each kind of message (R53 to R60)
+abbrev pub number_of : Kind → ℕ
+number_of kind.Put = 1
+number_of kind.Get = 2
+number_of kind.Del = 3
+number_of kind.Repl = 4
+number_of kind.Ok = 16
+number_of kind.Value = 17
+number_of kind.NotFound = 18
+number_of kind.Err = 20
 
 unfoldable pub type_of : Message → ℕ  -- (R53 to R60)
 type_of (put k v) = 1

@@ -1,26 +1,22 @@
 // The parts of the reader: the envelope, and the bodies. Offsets are those of the frame, whose
-// body begins at 4.
-ghost use Rattle.std.specs.Prelude.{◌≡◌, ◌⊎◌, not, [], ◌+◌, ◌≤◌, ◌<◌, length};
+// body begins at 4. Each body asks for the 8 bytes that the envelope has: a type with this fact
+// would be opened at each byte that is read, so it is no plainer.
+ghost use Rattle.std.specs.Prelude.{◌≡◌, not, true, false, [], ◌+◌, ◌≤◌, ◌<◌, length, IfOk, MatchResult};
 ghost use Rattle.entry.specs.Key.{bad_key};
 ghost use Rattle.entry.specs.Order.{least};
 ghost use Rattle.entry.specs.Entry.{entry_of, bad_flag};
+ghost use Rattle.entry.specs.declared.Refusal.TheVariants.{BadFrame};
 ghost use Rattle.frame.specs.Message.{too_large};
-ghost use Rattle.frame.specs.Reading.{number_at, envelope_holds, klen, stamp_in, value_ends, judged_as, read_body};
+ghost use Rattle.frame.specs.Layout.{number_of};
+ghost use Rattle.frame.specs.Reading.{span, envelope_holds, klen, vlen, stamp_in, value_ends, judged_as, said_as, read_body};
+ghost use Rattle.frame.specs.declared.answer.Message.TheVariants.{Get, Del, Ok as OkMessage, NotFound};
 
-use crate::answer::{Message, Read};
-use crate::{GET, MAX_FRAME, OK};
+use crate::MAX_FRAME;
+use crate::answer::Message;
+use crate::kind::Kind;
 use checksum::crc32c;
-use entry::{MAX_VALUE, Refusal, Stamp, TOMBSTONE, is_acceptable_key};
-use wire::get_be;
-
-// The number in `width` bytes at an offset.
-fn number_at(s: &[u8], at: usize, width: usize) -> u64
-    requires { (width ≤ 8) × (at + width ≤ length s.now) }
-    ensures { result ≡ number_at at width s.now }
-{
-    let end = at + width;
-    get_be(&s[at..end])
-}
+use entry::{EntryAt, MAX_VALUE, Refusal, Stamp, TOMBSTONE, is_acceptable_key};
+use wire::{Span, number_at};
 
 // Whether LEN, FLAGS and the checksum hold.
 pub(crate) fn envelope_holds(frame: &[u8]) -> bool
@@ -43,23 +39,33 @@ pub(crate) fn envelope_holds(frame: &[u8]) -> bool
     number_at(frame, end, 4) == crc32c(&frame[2..end]) as u64
 }
 
-// The key's length that a frame says.
-fn key_length(frame: &[u8]) -> usize
+// The key that a body begins with, as long as the frame says.
+fn key_in(frame: &[u8]) -> Span
     requires { 8 ≤ length frame.now }
-    ensures { (result ≡ klen frame.now) × (result < 256) }
+    ensures is { result ≡ span 5 (klen frame.now) }
+    ensures short { (result.at ≡ 5) × (result.len < 256) }
 {
-    frame[4] as usize
+    Span {
+        at: 5,
+        len: frame[4] as usize,
+    }
 }
 
-// Whether a body ends with the value whose length stands at an offset.
-fn value_ends(frame: &[u8], at: usize) -> bool
+// The value whose length stands at an offset, where the body ends with it.
+fn value_in(frame: &[u8], at: usize) -> Result<Span, Refusal>
     requires { at < 300 }
-    ensures { result ≡ value_ends at frame.now }
+    ensures is { MatchResult result (λ v. (value_ends at frame.now ≡ true) × (v ≡ span (at + 2) (vlen at frame.now)))
+        (λ e. (value_ends at frame.now ≡ false) × (e ≡ BadFrame)) }
+    ensures within { IfOk result (λ v. (v.at ≡ at + 2) × (v.at + v.len + 4 ≡ length frame.now)) }
 {
     if frame.len() < at + 6 {
-        return false;
+        return Err(Refusal::BadFrame);
     }
-    number_at(frame, at, 2) == (frame.len() - 6 - at) as u64
+    let len = frame.len() - 6 - at;
+    if number_at(frame, at, 2) != len as u64 {
+        return Err(Refusal::BadFrame);
+    }
+    Ok(Span { at: at + 2, len })
 }
 
 // Whether a flag is 0 or 1, and a tombstone has no value.
@@ -88,127 +94,121 @@ fn stamp_at(frame: &[u8], at: usize) -> Stamp
     }
 }
 
-// A message with this key and value in a frame that keeps the frame rules.
-fn judge(key: &[u8], value: &[u8], message: Message) -> Read
-    ensures { result ≡ judged_as (bad_key key.now) (too_large value.now) message }
+// Whether the key and the value of a frame that keeps the frame rules are taken.
+fn judge(key: &[u8], value: &[u8]) -> Result<(), Refusal>
+    ensures { result ≡ judged_as (bad_key key.now) (too_large value.now) tt }
 {
     if !is_acceptable_key(key) {
-        return Read::Refused(Refusal::BadKey);
+        return Err(Refusal::BadKey);
     }
     if MAX_VALUE < value.len() {
-        return Read::Refused(Refusal::ValueTooLarge);
+        return Err(Refusal::ValueTooLarge);
     }
-    Read::Message(message)
+    Ok(())
 }
 
-pub(crate) fn read_put(frame: &[u8]) -> Read
+fn read_put(frame: &[u8]) -> Result<Message, Refusal>
     requires { 8 ≤ length frame.now }
     ensures { result ≡ read_body 1 frame.now }
 {
-    let key_len = key_length(frame);
-    let key_end = key_len + 5;
-    if !value_ends(frame, key_end) {
-        return Read::Refused(Refusal::BadFrame);
-    }
-    let value_at = key_len + 7;
-    let value_end = frame.len() - 4;
-    let value = &frame[value_at..value_end];
-    let message = Message::Put {
-        key_at: 5,
-        key_len,
-        value_at,
-        value_len: value.len(),
-    };
-    judge(&frame[5..key_end], value, message)
+    let key = key_in(frame);
+    let value = value_in(frame, key.len + 5)?;
+    judge(key.of(frame), value.of(frame))?;
+    Ok(Message::Put { key, value })
 }
 
-// GET and DEL.
-pub(crate) fn read_keyed(frame: &[u8], kind: u8) -> Read
-    requires { (8 ≤ length frame.now) × ((kind ≡ 2) ⊎ (kind ≡ 3)) }
-    ensures { result ≡ read_body kind frame.now }
+// The key of a GET or a DEL.
+fn read_key(frame: &[u8]) -> Result<Span, Refusal>
+    requires { 8 ≤ length frame.now }
+    ensures get { said_as Get result ≡ read_body 2 frame.now }
+    ensures del { said_as Del result ≡ read_body 3 frame.now }
 {
-    let key_len = key_length(frame);
-    let key_end = key_len + 5;
-    if frame.len() != key_end + 4 {
-        return Read::Refused(Refusal::BadFrame);
+    let key = key_in(frame);
+    if frame.len() != key.len + 9 {
+        return Err(Refusal::BadFrame);
     }
-    let key = &frame[5..key_end];
-    if kind == GET {
-        judge(key, b"", Message::Get { key_at: 5, key_len })
-    } else {
-        judge(key, b"", Message::Del { key_at: 5, key_len })
-    }
+    judge(key.of(frame), b"")?;
+    Ok(key)
 }
 
-pub(crate) fn read_repl(frame: &[u8]) -> Read
+pub(crate) fn read_repl(frame: &[u8]) -> Result<Message, Refusal>
     requires { 8 ≤ length frame.now }
     ensures { result ≡ read_body 4 frame.now }
 {
-    let key_len = key_length(frame);
-    let key_end = key_len + 5;
-    let stamp_end = key_len + 15;
-    if !value_ends(frame, stamp_end) {
-        return Read::Refused(Refusal::BadFrame);
+    let key = key_in(frame);
+    let value = value_in(frame, key.len + 15)?;
+    let flag = frame[key.len + 5];
+    if !flag_holds(flag, value.of(frame)) {
+        return Err(Refusal::BadFrame);
     }
-    let value_at = key_len + 17;
-    let value_end = frame.len() - 4;
-    let value = &frame[value_at..value_end];
-    let flag = frame[key_end];
-    if !flag_holds(flag, value) {
-        return Read::Refused(Refusal::BadFrame);
-    }
-    let stamp = stamp_at(frame, key_len + 6);
-    let message = Message::Repl {
-        key_at: 5,
-        key_len,
-        value_at,
-        value_len: value.len(),
+    judge(key.of(frame), value.of(frame))?;
+    Ok(Message::Repl(EntryAt {
+        key,
+        value,
         flag,
-        stamp,
-    };
-    judge(&frame[5..key_end], value, message)
+        stamp: stamp_at(frame, key.len + 6),
+    }))
 }
 
-// OK and NOTFOUND.
-pub(crate) fn read_empty(frame: &[u8], kind: u8) -> Read
-    requires { (kind ≡ 16) ⊎ (kind ≡ 18) }
-    ensures { result ≡ read_body kind frame.now }
+// OK and NOTFOUND have no body.
+fn read_empty(frame: &[u8]) -> Result<(), Refusal>
+    ensures ok { said_as (λ u. OkMessage) result ≡ read_body 16 frame.now }
+    ensures not_found { said_as (λ u. NotFound) result ≡ read_body 18 frame.now }
 {
     if frame.len() != 8 {
-        return Read::Refused(Refusal::BadFrame);
+        return Err(Refusal::BadFrame);
     }
-    if kind == OK {
-        Read::Message(Message::Ok)
-    } else {
-        Read::Message(Message::NotFound)
-    }
+    Ok(())
 }
 
-pub(crate) fn read_value(frame: &[u8]) -> Read
+fn read_value(frame: &[u8]) -> Result<Message, Refusal>
     ensures { result ≡ read_body 17 frame.now }
 {
-    if !value_ends(frame, 4) {
-        return Read::Refused(Refusal::BadFrame);
+    let value = value_in(frame, 4)?;
+    if MAX_VALUE < value.len {
+        return Err(Refusal::ValueTooLarge);
     }
-    let value_len = frame.len() - 10;
-    if MAX_VALUE < value_len {
-        return Read::Refused(Refusal::ValueTooLarge);
-    }
-    Read::Message(Message::Value {
-        value_at: 6,
-        value_len,
-    })
+    Ok(Message::Value(value))
 }
 
-pub(crate) fn read_err(frame: &[u8]) -> Read
+fn read_err(frame: &[u8]) -> Result<Message, Refusal>
     ensures { result ≡ read_body 20 frame.now }
 {
     if frame.len() != 9 {
-        return Read::Refused(Refusal::BadFrame);
+        return Err(Refusal::BadFrame);
     }
     let number = frame[4];
     if number == 0 {
-        return Read::Refused(Refusal::BadFrame);
+        return Err(Refusal::BadFrame);
     }
-    Read::Message(Message::Err(number))
+    Ok(Message::Err(number))
+}
+
+// The message of a kind, in a frame whose envelope is not looked at.
+pub(crate) fn read_body(frame: &[u8], kind: Kind) -> Result<Message, Refusal>
+    requires { 8 ≤ length frame.now }
+    ensures { result ≡ read_body (number_of kind) frame.now }
+{
+    match kind {
+        Kind::Put => read_put(frame),
+        Kind::Get => {
+            let key = read_key(frame)?;
+            Ok(Message::Get { key })
+        }
+        Kind::Del => {
+            let key = read_key(frame)?;
+            Ok(Message::Del { key })
+        }
+        Kind::Repl => read_repl(frame),
+        Kind::Ok => {
+            read_empty(frame)?;
+            Ok(Message::Ok)
+        }
+        Kind::Value => read_value(frame),
+        Kind::NotFound => {
+            read_empty(frame)?;
+            Ok(Message::NotFound)
+        }
+        Kind::Err => read_err(frame),
+    }
 }

@@ -1,7 +1,7 @@
 -- A part of a slice that may run past its end is a field.
 use mathlib.Core.Path.{◌≡◌, sym, ◌∙◌}
 use mathlib.Core.Logic.{inl, inr}
-use Prim.Native.Nat.{ℕ, ◌+◌, ◌-◌, ◌≤◌, ◌<◌}
+use Prim.Native.Nat.{ℕ, ◌+◌, ◌≤◌, ◌<◌}
 use mathlib.Core.List.{List}
 use native.Mathlib.Omega.{arith}
 use lib.ListN.{length, take, drop, drop_of_length-le, length-take, length-drop}
@@ -14,10 +14,6 @@ use Rattle.wire.proofs.Tests.{test}
 pub field_none : (at w n : ℕ) (s : List ℕ) → length s ≤ at → n ≡ 0 → (r : List ℕ) → r ≡ take n (drop (length s) s) → r ≡ field at w s
 unfolding field
 field_none at w n s h z r e = rw (e, z, drop_of_length-le s h) (sym (take-nil w))
-
-pub field_rest : (at w : ℕ) (s : List ℕ) → length s - at ≤ w → take (length s - at) (drop at s) ≡ field at w s
-unfolding field
-field_rest at w s h = take_all (length s - at) (drop at s) (omega (arith, length-drop at s)) ∙ sym (take_all w (drop at s) (omega (arith, length-drop at s)))
 
 -- what is read past a place, and no further than the end
 pub field_past_all : (at w : ℕ) (s : List ℕ) → length s ≤ w → field at w s ≡ drop at s

@@ -5,35 +5,32 @@ use mathlib.Core.Logic.{inl, inr}
 use mathlib.Core.Bool.{Bool, true, false, ◌&&◌}
 use mathlib.Core.List.{List, [], ◌∷◌, ◌++◌, append_assoc}
 use native.Mathlib.Omega.{arith}
-use native.Mathlib.Nat.{sub-zero}
+use Rattle.std.specs.List.{list_all, range_with_len}
 use lib.ListN.{length, take, drop, take-append-drop, length-drop}
 use lib.Seq.{take_at, drop_at, drop-drop}
 use borrow.Author.Tests.{eqb-true, eq-eqb, leb-true, le-leb}
 use Rattle.wire.specs.Number.{be, num, Bytes}
 use Rattle.wire.specs.Fill.{zeros, field}
-use Rattle.wire.specs.Order.{same_bytes, comparison}
-use Rattle.wire.specs.declared.Comparison.{Comparison}
-use Rattle.wire.specs.declared.Comparison.TheVariants.{Below}
+use Rattle.std.specs.Ordering.{is_lt}
+use Rattle.wire.specs.Order.{same_bytes, bytes_below, comparison}
 use Rattle.wire.proofs.Tests.{test, clash, false_of, and-true}
 use Rattle.wire.proofs.Number.{length-be, num-be}
 use Rattle.wire.proofs.Fill.{length-zeros, length-field, field_here, field_past}
 use Rattle.wire.proofs.Order.{same_bytes_eq, same_bytes_refl}
-use Rattle.entry.specs.declared.Stamp.{Stamp}
 use Rattle.entry.specs.declared.Refusal.{Refusal}
-use Rattle.entry.specs.declared.Acceptance.{Acceptance}
-use Rattle.entry.specs.declared.Acceptance.TheVariants.{Acceptable, Refused}
+use Rattle.std.specs.Prelude.{Result, Ok, Err}
+use Rattle.std.specs.Result.{is_err}
 use Rattle.entry.specs.Refusal.{number}
 use Rattle.entry.specs.Acceptance.{refusal_number}
 use Rattle.entry.specs.Order.{key_below}
-use Rattle.entry.specs.Entry.{Entry, entry_of, refusal_of}
+use Rattle.entry.specs.Entry.{Entry, refusal_of}
 use Rattle.entry.proofs.Numbers.{number-range}
 use Rattle.image.specs.Layout.{header_width, key_width, value_width, slot_width, most_slots, slot_start}
-use Rattle.image.specs.Image.{slot_bytes, slots, header, key_in, flag_in, value_in, stamp_in, slot_entry, entries_in, slots_of, used_of, line_of, entries_of}
+use Rattle.image.specs.Image.{slot_bytes, slots, header, key_in, slot_entry, entries_in, slots_of, used_of, line_of, entries_of}
 use Rattle.image.specs.Image.{acceptable, all_acceptable, below_first, ascending, sound}
 use Rattle.image.specs.Slot.{slot_at}
 use Rattle.image.specs.Check.{sealed, slot_sound, slots_sound, shaped}
 use Rattle.image.specs.Meaning.{Fit, AllFit, Sound}
-use Rattle.wire.proofs.Compared.{came_below, came_not_below}
 use Rattle.wire.proofs.Fields.{be-field, field_split}
 use Rattle.image.proofs.Fields.{field_past_all}
 use Rattle.image.proofs.SlotLaws.{length_slot, fit_of, slot_entry_lem, in_klen, in_vlen}
@@ -78,22 +75,15 @@ module _ (t : List ℕ) where
       no : (n m : ℕ) → value_width < n → m ≤ value_width → n ≡ m → ⊥
       no n m a b e = omega arith
 
-  -- the parts that were read, and the verdict on them
-  module _ (k v : List ℕ) (f : ℕ) (s : Stamp) (ke : k ≡ key_in t) (ve : v ≡ value_in t) (fe : f ≡ flag_in t) (se : s ≡ stamp_in t)
-      (r : Acceptance) (re : refusal_number r ≡ refusal_of (entry_of k v f s)) where
-    read_entry : entry_of k v f s ≡ slot_entry t
-    unfolding slot_entry
-    read_entry = λ i. record { key = ke i; value = ve i; flag = fe i; stamp = se i }
+  -- the verdict on its entry
+  pub bad_verdict : (r : Result (Unit {0}) Refusal) → refusal_number r ≡ refusal_of (slot_entry t) → is_err r ≡ true → false ≡ slot_sound t
+  bad_verdict (Ok _) re e = cc
+  bad_verdict (Err n) re e = bad t (λ g. let z : number n ≡ 0 = re ∙ g.ok in omega (arith, (number-range n).0))
 
-    refusal_is : refusal_number r ≡ refusal_of (slot_entry t)
-    refusal_is = re ∙ ap refusal_of read_entry
-
-    pub bad_verdict : (n : Refusal) → r ≡ Refused n → false ≡ slot_sound t
-    bad_verdict n e = bad t (λ g. let z : number n ≡ 0 = sym (ap refusal_number e) ∙ refusal_is ∙ g.ok in omega (arith, (number-range n).0))
-
-    pub good_verdict : r ≡ Acceptable → sealed t ≡ slot_sound t
-    unfolding slot_sound acceptable
-    good_verdict e = sym (rw (eq-eqb (refusal_of (slot_entry t)) 0 (sym refusal_is ∙ ap refusal_number e)))
+  pub good_verdict : (r : Result (Unit {0}) Refusal) → refusal_number r ≡ refusal_of (slot_entry t) → is_err r ≡ false → sealed t ≡ slot_sound t
+  unfolding slot_sound acceptable
+  good_verdict (Ok _) re e = sym (rw (eq-eqb (refusal_of (slot_entry t)) 0 (sym re)))
+  good_verdict (Err n) re e = cc
 
 -- ---- the used slots
 slots_good : (es : List Entry) (r : List ℕ) → AllFit es → all_acceptable es ≡ true → slots_sound (length es) (slots es ++ r) ≡ true
@@ -121,33 +111,18 @@ run_accepts (suc n) t h =
     let k = and-true (slot_sound (take slot_width t)) (slots_sound n (drop slot_width t)) h in
     rw (eq-eqb (refusal_of (slot_entry (take slot_width t))) 0 (slot_good (take slot_width t) k.0).ok) (run_accepts n (drop slot_width t) k.1)
 
--- a loop over them: what is left to check at slot i
-abbrev pub slots_left : List ℕ → ℕ → Bool
-slots_left s i = slots_sound (used_of s - i) (drop (slot_start i) s)
+-- whether slot i is sound
+abbrev pub sound_at : List ℕ → ℕ → Bool
+sound_at s i = slot_sound (slot_at i s)
 
-module _ (s : List ℕ) where
-  pub run_none : slots_left s 0 ≡ slots_sound (used_of s) (drop header_width s)
-  run_none = ap (λ (m : ℕ). slots_sound m (drop header_width s)) (sub-zero (used_of s))
-
-  module _ (i : ℕ) where
-    run_on : i < used_of s → slots_left s i ≡ (slot_sound (slot_at i s) && slots_left s (i + 1))
-    unfolding slots_sound slot_at field
-    run_on h =
-        let e : used_of s - i ≡ suc (used_of s - (i + 1)) = omega arith in
-        let d : slot_start i + slot_width ≡ slot_start (i + 1) = omega arith in
-        ap (λ (m : ℕ). slots_sound m (drop (slot_start i) s)) e
-        ∙ ap (λ (l : List ℕ). slot_sound (take slot_width (drop (slot_start i) s)) && slots_sound (used_of s - (i + 1)) l)
-        (drop-drop slot_width (slot_start i) s ∙ ap (λ (m : ℕ). drop m s) d)
-
-    pub run_next : i < used_of s → slot_sound (slot_at i s) ≡ true → slots_left s (i + 1) ≡ slots_left s i
-    run_next h g = sym (run_on h ∙ ap (λ (b : Bool). b && slots_left s (i + 1)) g)
-
-    pub run_bad : i < used_of s → slot_sound (slot_at i s) ≡ false → slots_left s i ≡ false
-    run_bad h g = run_on h ∙ ap (λ (b : Bool). b && slots_left s (i + 1)) g
-
-    pub run_end : used_of s ≤ i → slots_left s i ≡ true
-    unfolding slots_sound
-    run_end h = let e : used_of s - i ≡ 0 = omega arith in ap (λ (m : ℕ). slots_sound m (drop (slot_start i) s)) e
+-- the n slots from slot i on, tested one by one
+pub each_slot : (s : List ℕ) (n i : ℕ) → list_all (sound_at s) (range_with_len i n) ≡ slots_sound n (drop (slot_start i) s)
+unfolding slots_sound slot_at field
+each_slot s zero i = refl
+each_slot s (suc n) i =
+    let d : slot_start i + slot_width ≡ slot_start (i + 1) = omega arith in
+    ap (λ (b : Bool). slot_sound (slot_at i s) && b)
+    (each_slot s n (i + 1) ∙ ap (slots_sound n) (ap (λ (m : ℕ). drop m s) (sym d) ∙ sym (drop-drop slot_width (slot_start i) s)))
 
 -- ---- their keys
 module _ (s : List ℕ) (i : ℕ) (lo : 1 ≤ i) (hi : i < used_of s) where
@@ -158,18 +133,13 @@ module _ (s : List ℕ) (i : ℕ) (lo : 1 ≤ i) (hi : i < used_of s) where
       ap ascending (entry_at (i - 1) s (omega arith) ∙ ap (λ (m : ℕ). slot_entry (slot_at (i - 1) s) ∷ drop m (entries_of s)) e)
       ∙ ap (λ (l : List Entry). below_first (key_in (slot_at (i - 1) s)) l && ascending (drop i (entries_of s))) (entry_at i s hi)
 
-  module _ (a b : List ℕ) (ae : a ≡ key_in (slot_at (i - 1) s)) (be : b ≡ key_in (slot_at i s)) (o : Comparison) (oe : o ≡ comparison a b) where
-    order_is : o ≡ comparison (key_in (slot_at (i - 1) s)) (key_in (slot_at i s))
-    order_is = oe ∙ ap₂ comparison ae be
+-- whether the keys of slots i - 1 and i ascend
+abbrev pub keys_at : List ℕ → ℕ → Bool
+keys_at s i = is_lt (comparison (key_in (slot_at (i - 1) s)) (key_in (slot_at i s)))
 
-    pub keys_next : o ≡ Below → ascending (drop (i + 1 - 1) (entries_of s)) ≡ ascending (drop (i - 1) (entries_of s))
-    keys_next e =
-        let z : i + 1 - 1 ≡ i = omega arith in
-        ap (λ (n : ℕ). ascending (drop n (entries_of s))) z
-        ∙ sym (pair ∙ ap (λ (t : Bool). t && ascending (drop i (entries_of s))) (came_below _ _ (sym order_is ∙ e)))
-
-    pub keys_bad : (o ≡ Below → ⊥) → ascending (drop (i - 1) (entries_of s)) ≡ false
-    keys_bad h = pair ∙ ap (λ (t : Bool). t && ascending (drop i (entries_of s))) (came_not_below _ _ (λ e. h (order_is ∙ e)))
+less_is : (a b : List ℕ) → is_lt (comparison a b) ≡ key_below a b
+unfolding comparison
+less_is a b = elim (test (bytes_below a b)) [ inl p ↦ rw p refl | inr p ↦ elim (test (same_bytes a b)) [ inl q ↦ rw (p, q) refl | inr q ↦ rw (p, q) refl ] ]
 
 keys_one : (es : List Entry) (i : ℕ) → length es ≤ i + 1 → ascending (drop i es) ≡ true
 unfolding ascending below_first
@@ -182,8 +152,16 @@ keys_one (e ∷ (f ∷ es)) zero h = absurd (no (length es) h)
     no n h = omega arith
 keys_one (e ∷ es) (suc i) h = keys_one es i (omega arith)
 
-pub keys_end : (s : List ℕ) (i : ℕ) → used_of s ≤ i → ascending (drop (i - 1) (entries_of s)) ≡ true
+keys_end : (s : List ℕ) (i : ℕ) → used_of s ≤ i → ascending (drop (i - 1) (entries_of s)) ≡ true
 keys_end s i h = keys_one (entries_of s) (i - 1) (omega (arith, used_is s))
+
+-- the n slots from slot i on, each with the one before it
+pub each_key : (s : List ℕ) (n i : ℕ) → 1 ≤ i → n ≡ used_of s - i → list_all (keys_at s) (range_with_len i n) ≡ ascending (drop (i - 1) (entries_of s))
+each_key s zero i lo e = sym (keys_end s i (omega arith))
+each_key s (suc n) i lo e =
+    let z : i + 1 - 1 ≡ i = omega arith in
+    ap₂ (λ (a b : Bool). a && b) (less_is _ _) (each_key s n (i + 1) (omega arith) (omega arith) ∙ ap (λ (m : ℕ). ascending (drop m (entries_of s))) z)
+    ∙ sym (pair s i lo (omega arith))
 
 -- ---- the header
 pub record Shape (s : List ℕ) : Type 0 where

@@ -1,5 +1,5 @@
 -- How soundness is checked: the header, then slot by slot.
-use Rattle.std.specs.Prelude.{◌≡◌, ℕ, zero, suc, ◌^◌, ◌≤◌, ◌<◌, Bool, true, ◌&&◌, List, length, take, drop, leb, eqb}
+use Rattle.std.specs.Prelude.{◌≡◌, ℕ, zero, suc, ◌≤◌, Bool, true, ◌&&◌, List, length, take, drop, leb, eqb}
 use Rattle.wire.specs.Number.{num}
 use Rattle.wire.specs.Fill.{field}
 use Rattle.wire.specs.Order.{same_bytes}
@@ -18,11 +18,6 @@ slot_sound s = acceptable (slot_entry s) && sealed s
 unfoldable pub slots_sound : ℕ → List ℕ → Bool
 slots_sound zero s = true
 slots_sound (suc n) s = slot_sound (take slot_width s) && slots_sound n (drop slot_width s)
-
--- r is the number in the w bytes at an offset
-pub record NumberAt (at w : ℕ) (s : List ℕ) (r : ℕ) : Type 0 where
-  pub is : r ≡ num (field at w s)
-  pub fits : r < 256 ^ w
 
 -- klen and vlen of a slot, within their fields
 pub record Lengths (s : List ℕ) (klen vlen : ℕ) : Type 0 where

@@ -2,49 +2,70 @@
 // public function is total.
 #![tactic(auto)]
 
-mod field;
 pub mod layout;
 
 ghost use Rattle.std.specs.Prelude.{◌≡◌, ◌^◌, ◌<◌, length, drop};
+ghost use Rattle.checksum.specs.Crc32c.{crc32c as crc_of};
 ghost use Rattle.checksum.specs.Table.{crc_table};
-ghost use Rattle.entry.specs.Entry.{entry_of};
+ghost use Rattle.entry.specs.Entry.{entry_in};
 ghost use Rattle.image.specs.Layout.{header_width, key_at};
-ghost use Rattle.image.specs.Image.{slot_head, key_in, flag_in, value_in, stamp_in, slots_of, used_of, line_of, entries_of, ascending, sound};
+ghost use Rattle.image.specs.Image.{slot_head, key_in, flag_in, value_in, stamp_in, slots_of, used_of, line_of, slot_entry, entries_of, ascending, sound};
 ghost use Rattle.image.specs.Slot.{slot_at, has_slot, slot_with, header_with};
 ghost use Rattle.image.specs.Check.{Lengths, sealed, slot_sound, slots_sound, shaped};
 
 use checksum::{Table, crc32c, crc32c_with, table};
-use entry::{Acceptance, MAX_KEY, MAX_VALUE, Stamp, judge};
-use field::{number, part};
+use entry::{Entry, MAX_KEY, MAX_VALUE, Stamp};
 use layout::{
     BODY_WIDTH, FIRST_AT, FLAG_AT, HEADER_FILL_AT, HEADER_WIDTH, KEY_AT, KLEN_AT, LINE_AT,
     LOGICAL_AT, MAX_SLOTS, NODE_AT, PHYS_AT, SLOT_FILL_AT, SLOT_WIDTH, SLOTS_AT, USED_AT, VALUE_AT,
     VLEN_AT, WIDTH_AT,
 };
-use wire::{Comparison, all_zero, compare, put_be, put_padded};
+use wire::{all_zero, compare, number_at, part, put_be, put_padded};
+
+// The table of CRC32C, made once for a test of soundness.
+#[derive(Drop)]
+struct Crcs {
+    table: Table,
+    ghost of_crc32c: { table ≡ crc_table },
+}
+
+impl Crcs {
+    fn new() -> Crcs {
+        Crcs { table: table() }
+    }
+
+    fn sum(&self, bytes: &[u8]) -> u32
+        ensures { result ≡ crc_of bytes.now }
+    {
+        crc32c_with(&self.table, bytes)
+    }
+}
 
 // How many slots a store says it has.
+#[tactic(auto, unfolding(crate::specs::Image::slots_of))]
 pub fn slot_count(store: &[u8]) -> usize
     ensures is { result ≡ slots_of store.now }
     ensures small { result < 65536 }
 {
-    number(store, SLOTS_AT, 2) as usize
+    number_at(store, SLOTS_AT, 2) as usize
 }
 
 // How many of them it says are used.
+#[tactic(auto, unfolding(crate::specs::Image::used_of))]
 pub fn used_count(store: &[u8]) -> usize
     ensures is { result ≡ used_of store.now }
     ensures small { result < 65536 }
 {
-    number(store, USED_AT, 2) as usize
+    number_at(store, USED_AT, 2) as usize
 }
 
 // The purge line that a store says it has.
+#[tactic(auto, unfolding(crate::specs::Image::line_of))]
 pub fn purge_line(store: &[u8]) -> u64
     ensures is { result ≡ line_of store.now }
     ensures small { result < 2 ^ 48 }
 {
-    number(store, LINE_AT, 6)
+    number_at(store, LINE_AT, 6)
 }
 
 // Slot i of a store, as much of it as there is.
@@ -68,36 +89,39 @@ pub fn has_slot(store: &[u8], i: usize) -> bool
     slot(store, i).len() == SLOT_WIDTH
 }
 
-// The key that a slot holds.
+// The key that a slot holds. The value below is read alike; one function for both would take five
+// offsets, so it is no plainer.
 pub fn slot_key(slot: &[u8]) -> &[u8]
     ensures { result.now ≡ key_in slot.now }
 {
-    let n = number(slot, KLEN_AT, 1) as usize;
+    let n = number_at(slot, KLEN_AT, 1) as usize;
     part(part(slot, KEY_AT, MAX_KEY), 0, n)
 }
 
 // The flag that a slot holds.
+#[tactic(auto, unfolding(crate::specs::Image::flag_in))]
 pub fn slot_flag(slot: &[u8]) -> u8
     ensures { result ≡ flag_in slot.now }
 {
-    number(slot, FLAG_AT, 1) as u8
+    number_at(slot, FLAG_AT, 1) as u8
 }
 
 // The value that a slot holds.
 pub fn slot_value(slot: &[u8]) -> &[u8]
     ensures { result.now ≡ value_in slot.now }
 {
-    let n = number(slot, VLEN_AT, 2) as usize;
+    let n = number_at(slot, VLEN_AT, 2) as usize;
     part(part(slot, VALUE_AT, MAX_VALUE), 0, n)
 }
 
 // The stamp that a slot holds.
+#[tactic(auto, unfolding(crate::specs::Image::stamp_in))]
 pub fn slot_stamp(slot: &[u8]) -> Stamp
     ensures { result ≡ stamp_in slot.now }
 {
-    let phys = number(slot, PHYS_AT, 6);
-    let logical = number(slot, LOGICAL_AT, 2) as u16;
-    let node = number(slot, NODE_AT, 1) as u8;
+    let phys = number_at(slot, PHYS_AT, 6);
+    let logical = number_at(slot, LOGICAL_AT, 2) as u16;
+    let node = number_at(slot, NODE_AT, 1) as u8;
     Stamp {
         phys,
         logical,
@@ -105,40 +129,52 @@ pub fn slot_stamp(slot: &[u8]) -> Stamp
     }
 }
 
-// Writes a slot's bytes before the key.
-fn put_head(head: &mut [u8], key: &[u8], value: &[u8], flag: u8, stamp: Stamp)
-    requires { length head.old ≡ key_at }
-    ensures { head.new ≡ slot_head (entry_of key.now value.now flag stamp) }
+// The entry that a slot holds.
+#[tactic(auto, unfolding(crate::specs::Image::slot_entry))]
+pub fn slot_entry(slot: &[u8]) -> Entry<'_>
+    ensures { entry_in result ≡ slot_entry slot.now }
 {
-    let logical = stamp.logical;
-    let node = stamp.node;
-    put_be(&mut head[KLEN_AT..FLAG_AT], key.len() as u64);
-    put_be(&mut head[FLAG_AT..VLEN_AT], flag as u64);
-    put_be(&mut head[VLEN_AT..PHYS_AT], value.len() as u64);
+    Entry {
+        key: slot_key(slot),
+        value: slot_value(slot),
+        flag: slot_flag(slot),
+        stamp: slot_stamp(slot),
+    }
+}
+
+// Writes a slot's bytes before the key.
+fn put_head(head: &mut [u8], entry: Entry<'_>)
+    requires { length head.old ≡ key_at }
+    ensures { head.new ≡ slot_head (entry_in entry.entry) }
+{
+    let stamp = entry.stamp;
+    put_be(&mut head[KLEN_AT..FLAG_AT], entry.key.len() as u64);
+    put_be(&mut head[FLAG_AT..VLEN_AT], entry.flag as u64);
+    put_be(&mut head[VLEN_AT..PHYS_AT], entry.value.len() as u64);
     put_be(&mut head[PHYS_AT..LOGICAL_AT], stamp.phys);
-    put_be(&mut head[LOGICAL_AT..NODE_AT], logical as u64);
-    put_be(&mut head[NODE_AT..SLOT_FILL_AT], node as u64);
-    put_be(&mut head[SLOT_FILL_AT..KEY_AT], 0);
+    put_be(&mut head[LOGICAL_AT..NODE_AT], stamp.logical as u64);
+    put_be(&mut head[NODE_AT..SLOT_FILL_AT], stamp.node as u64);
+    head[SLOT_FILL_AT..KEY_AT].fill(0);
 }
 
 // Writes an entry over a slot. Bytes that are no slot stay as they are.
-pub fn put_slot(slot: &mut [u8], key: &[u8], value: &[u8], flag: u8, stamp: Stamp)
-    ensures { slot.new ≡ slot_with (entry_of key.now value.now flag stamp) slot.old }
+pub fn put_slot(slot: &mut [u8], entry: Entry<'_>)
+    ensures { slot.new ≡ slot_with (entry_in entry.entry) slot.old }
 {
     if slot.len() != SLOT_WIDTH {
         return;
     }
-    put_head(&mut slot[0..KEY_AT], key, value, flag, stamp);
-    put_padded(&mut slot[KEY_AT..VALUE_AT], key);
-    put_padded(&mut slot[VALUE_AT..BODY_WIDTH], value);
+    put_head(&mut slot[0..KEY_AT], entry);
+    put_padded(&mut slot[KEY_AT..VALUE_AT], entry.key);
+    put_padded(&mut slot[VALUE_AT..BODY_WIDTH], entry.value);
     let sum = crc32c(&slot[0..BODY_WIDTH]);
     put_be(&mut slot[BODY_WIDTH..SLOT_WIDTH], sum as u64);
 }
 
 // Whether the zero fill and the checksum of a slot are right, its lengths being within their
 // fields.
-fn is_sealed(crcs: &Table, slot: &[u8], klen: usize, vlen: usize) -> bool
-    requires { (crcs.now ≡ crc_table) × Lengths slot.now klen vlen }
+fn is_sealed(crcs: &Crcs, slot: &[u8], klen: usize, vlen: usize) -> bool
+    requires { Lengths slot.now klen vlen }
     ensures { result ≡ sealed slot.now }
 {
     if !all_zero(part(slot, SLOT_FILL_AT, 3)) {
@@ -150,68 +186,45 @@ fn is_sealed(crcs: &Table, slot: &[u8], klen: usize, vlen: usize) -> bool
     if !all_zero(part(slot, VALUE_AT + vlen, MAX_VALUE - vlen)) {
         return false;
     }
-    crc32c_with(crcs, part(slot, 0, BODY_WIDTH)) as u64 == number(slot, BODY_WIDTH, 4)
+    crcs.sum(part(slot, 0, BODY_WIDTH)) as u64 == number_at(slot, BODY_WIDTH, 4)
 }
 
 // Whether a slot is sound: its entry is acceptable, and its bytes are those of the entry's slot.
-fn is_sound_slot(crcs: &Table, slot: &[u8]) -> bool
-    requires { crcs.now ≡ crc_table }
+fn is_sound_slot(crcs: &Crcs, slot: &[u8]) -> bool
     ensures { result ≡ slot_sound slot.now }
 {
     if slot.len() != SLOT_WIDTH {
         return false;
     }
-    let klen = number(slot, KLEN_AT, 1) as usize;
-    let vlen = number(slot, VLEN_AT, 2) as usize;
+    let klen = number_at(slot, KLEN_AT, 1) as usize;
+    let vlen = number_at(slot, VLEN_AT, 2) as usize;
     if MAX_KEY < klen {
         return false;
     }
     if MAX_VALUE < vlen {
         return false;
     }
-    let verdict = judge(
-        slot_key(slot),
-        slot_value(slot),
-        slot_flag(slot),
-        slot_stamp(slot),
-    );
-    let Acceptance::Acceptable = verdict else {
+    if slot_entry(slot).judge().is_err() {
         return false;
-    };
+    }
     is_sealed(crcs, slot, klen, vlen)
 }
 
 // Whether each used slot is sound.
-fn slots_sound(crcs: &Table, store: &[u8]) -> bool
-    requires { crcs.now ≡ crc_table }
+fn slots_sound(crcs: &Crcs, store: &[u8]) -> bool
     ensures { result ≡ slots_sound (used_of store.now) (drop header_width store.now) }
 {
-    let used = used_count(store);
-    let mut i = 0;
-    while i < used {
-        if !is_sound_slot(crcs, slot(store, i)) {
-            return false;
-        }
-        i += 1;
-    }
-    true
+    (0..used_count(store)).all(|i| is_sound_slot(crcs, slot(store, i)))
 }
 
 // Whether the keys of the used slots are strictly ascending.
 fn keys_ascend(store: &[u8]) -> bool
     ensures { result ≡ ascending (entries_of store.now) }
 {
-    let used = used_count(store);
-    let mut i = 1;
-    while i < used {
+    (1..used_count(store)).all(|i| {
         let order = compare(slot_key(slot(store, i - 1)), slot_key(slot(store, i)));
-        match order {
-            Comparison::Below => i += 1,
-            Comparison::Same => return false,
-            Comparison::Above => return false,
-        }
-    }
-    true
+        order.is_lt()
+    })
 }
 
 // Writes the header of a store of `slots` slots, none of them used, that was never purged. Bytes
@@ -227,7 +240,7 @@ pub fn put_header(head: &mut [u8], slots: usize)
     put_be(&mut head[WIDTH_AT..FIRST_AT], SLOT_WIDTH as u64);
     put_be(&mut head[FIRST_AT..LINE_AT], HEADER_WIDTH as u64);
     put_be(&mut head[LINE_AT..HEADER_FILL_AT], 0);
-    put_be(&mut head[HEADER_FILL_AT..HEADER_WIDTH], 0);
+    head[HEADER_FILL_AT..HEADER_WIDTH].fill(0);
 }
 
 // Whether the header is right, and the buffer as long as its slots ask.
@@ -247,10 +260,10 @@ fn is_shaped(store: &[u8]) -> bool
     if store.len() != HEADER_WIDTH + SLOT_WIDTH * slots {
         return false;
     }
-    if number(store, WIDTH_AT, 2) != SLOT_WIDTH as u64 {
+    if number_at(store, WIDTH_AT, 2) != SLOT_WIDTH as u64 {
         return false;
     }
-    if number(store, FIRST_AT, 2) != HEADER_WIDTH as u64 {
+    if number_at(store, FIRST_AT, 2) != HEADER_WIDTH as u64 {
         return false;
     }
     all_zero(part(store, HEADER_FILL_AT, 2))
@@ -263,7 +276,7 @@ pub fn is_sound(store: &[u8]) -> bool
     if !is_shaped(store) {
         return false;
     }
-    let crcs = table();
+    let crcs = Crcs::new();
     if !slots_sound(&crcs, store) {
         return false;
     }

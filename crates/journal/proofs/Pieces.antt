@@ -100,8 +100,7 @@ module _ (s more : List ℕ) (h : 8 ≤ length s) where
 pub has_whole : (s : List ℕ) (t e : ℕ) → Has s t e → piece_of s ≡ whole t e
 has_whole s t e w =
     let l : 8 + len_in s ≤ length s = omega (arith, w.within, w.end_is) in
-    let z : length s ≡ 0 → ⊥ = omega arith in
-    rw (w.time_is, w.end_is) (sym (cut_whole s z (omega arith) w.least w.most l))
+    rw (w.time_is, w.end_is) (sym (cut_whole s (omega arith) w.least w.most l))
 
 pub broken_of : (s : List ℕ) → IsBroken s → piece_of s ≡ no_record false 3
 unfolding piece_of

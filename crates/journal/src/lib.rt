@@ -1,4 +1,5 @@
-// A journal is a run of records, each a time (6 bytes) and a frame. This cuts the first record from the bytes at hand.
+// A journal is a run of records, each a time (6 bytes) and a frame. This cuts the first record from
+// the bytes at hand.
 #![tactic(auto)]
 
 ghost use Rattle.std.specs.Prelude.{◌≡◌};
@@ -10,8 +11,8 @@ use wire::get_be;
 // The greatest LEN, which counts what follows it.
 const MAX_LEN: usize = MAX_FRAME - 2;
 
-// What stands at the front of some bytes of a journal.
-#[derive(Clone, Copy)]
+// What stands at the front of some bytes of a journal: four outcomes, and so no Option or Result.
+#[derive(Clone, Copy, PartialEq, Eq, Debug)]
 pub enum Cut {
     // Nothing: a clean end, if no more bytes follow.
     End,
@@ -23,27 +24,24 @@ pub enum Cut {
     Record { time: u64, end: usize },
 }
 
+#[tactic(auto, using(crate::proofs::Cutting::cut_rules), unfolding(crate::specs::Journal::piece_of))]
 pub fn cut_record(bytes: &[u8]) -> Cut
     ensures { meaning result ≡ piece_of bytes.now }
 {
-    let n = bytes.len();
-    if n == 0 {
+    if bytes.is_empty() {
         return Cut::End;
     }
-    if n < 8 {
+    if bytes.len() < 8 {
         return Cut::Short;
     }
     let len = get_be(&bytes[6..8]) as usize;
-    if len < 6 {
-        return Cut::Broken;
-    }
-    if MAX_LEN < len {
+    if len < 6 || MAX_LEN < len {
         return Cut::Broken;
     }
     let end = 8 + len;
-    if n < end {
+    if bytes.len() < end {
         return Cut::Short;
     }
-    let time = get_be(&bytes[0..6]);
+    let time = get_be(&bytes[..6]);
     Cut::Record { time, end }
 }

@@ -9,33 +9,37 @@ use lib.Dec.{leb}
 use Rattle.wire.specs.Number.{num, num_from}
 use Rattle.wire.specs.Fill.{field}
 use Rattle.wire.proofs.Fields.{num_byte}
+use Rattle.std.specs.Prelude.{Result, Ok}
+use Rattle.std.specs.Result.{result_unwrap_or}
+use Rattle.entry.specs.Acceptance.{refusal_number}
 use Rattle.entry.specs.Refusal.{number}
 use Rattle.entry.specs.declared.Refusal.{Refusal}
 use Rattle.entry.proofs.Numbers.{number-range}
 use Rattle.clock.specs.declared.Clock.{Clock}
-use Rattle.frame.specs.declared.answer.Wrote.{Wrote}
-use Rattle.frame.specs.declared.answer.Wrote.TheVariants.{Bytes}
 use Rattle.frame.specs.Message.{Message, ok, not_found, err, message_refusal, time_fault, key_fault, value_fault, argument_fault}
 use Rattle.frame.specs.Layout.{max_frame, frame_of}
 use Rattle.frame.specs.Reading.{type_in, number_at}
 use Rattle.frame.specs.Writing.{Writes}
 use Rattle.frame.proofs.Bodies.{err_taken}
 use Rattle.frame.proofs.RoundTrips.{frame_at_most_600, written_whole}
-use Rattle.node.specs.declared.Reply.{Reply}
 use Rattle.node.specs.Handler.{over}
-use Rattle.node.specs.Answer.{reply_number}
-use Rattle.node.specs.Request.{bytes_of, Replies}
+use Rattle.node.specs.Request.{Replies}
 
 module _ (m : Message) (reply : List ℕ) (taken : message_refusal m ≡ 0) (room : max_frame ≤ length reply)
-    (w : Wrote) (after : List ℕ) (done : Writes m reply w after) where
-  whole : (w ≡ Bytes (length (frame_of m))) × (after ≡ over (frame_of m) reply)
+    (w : Result ℕ Refusal) (after : List ℕ) (done : Writes m reply w after) where
+  whole : (w ≡ Ok (length (frame_of m))) × (after ≡ over (frame_of m) reply)
   unfolding over
   whole = written_whole m reply w after taken (omega (arith, frame_at_most_600 m taken)) done
 
   -- the answer with the clock c and the refusal n
-  pub replies : (c : Clock) (k n : ℕ) (a : Reply) → k ≡ bytes_of w → reply_number a ≡ n
+  pub replies : (c : Clock) (k n : ℕ) (a : Result Unit Refusal) → k ≡ result_unwrap_or w 0 → refusal_number a ≡ n
       → Replies c m n reply (record { clock = c; written = k; answer = a }) after
-  replies c k n a h e = record { clock_is = refl; reply_is = whole.1; written_is = h ∙ ap bytes_of whole.0; answer_is = e }
+  replies c k n a h e = record {
+    clock_is = refl;
+    reply_is = whole.1;
+    written_is = h ∙ ap (λ (x : Result ℕ Refusal). result_unwrap_or x 0) whole.0;
+    answer_is = e;
+  }
 
 -- ---- the messages that the handler replies are all taken
 pub ok_taken : message_refusal ok ≡ 0

@@ -4,17 +4,14 @@ use native.Mathlib.Omega.{arith}
 use mathlib.Core.Path.{◌≡◌, refl, sym, ap, ◌∙◌}
 use mathlib.Core.Logic.{inl, inr}
 use mathlib.Core.Bool.{Bool, true, false}
-use mathlib.Core.List.{List, [], ◌∷◌}
+use mathlib.Core.List.{List, []}
 use mathlib.Core.Option.{Option, none, some}
 use lib.ListN.{length}
 use lib.Dec.{eqb}
-use types.Run.{OneOf}
-use denote.Enum.Declared.{tag_of}
 use Rattle.wire.specs.Fill.{field}
 use Rattle.wire.proofs.Tests.{test, never}
 use Rattle.entry.specs.declared.Stamp.{Stamp}
 use Rattle.entry.specs.Key.{bad_key}
-use Rattle.entry.specs.Refusal.{number}
 use Rattle.entry.specs.declared.Refusal.{Refusal}
 use Rattle.entry.specs.Entry.{Entry, entry_of}
 use Rattle.clock.specs.declared.Clock.{Clock}
@@ -23,18 +20,17 @@ use Rattle.clock.specs.Clock as clock
 use Rattle.clock.specs.Answer.{stamp, refusal, given, clock_after, step_refusal_of}
 use Rattle.clock.proofs.Steps.{StepNumbered}
 use Rattle.frame.specs.declared.answer.Message.{Message as Located}
-use Rattle.frame.specs.declared.answer.Message.TheVariants.{Put, Get, Del, Repl, Ok, Value, NotFound, Err}
-use Rattle.frame.specs.declared.answer.Read.{Read}
-use Rattle.frame.specs.declared.answer.Read.TheVariants as read
-use Rattle.frame.specs.contracts.answer.Message.{the_type as the-message}
-use Rattle.frame.specs.Reading.{message_in, meaning}
-use Rattle.frame.specs.Meaning.{Within}
+use Rattle.frame.specs.declared.answer.Message.TheVariants.{Put, Get, Del, Repl, Ok as OkMessage, Value, NotFound, Err as ErrMessage}
+use Rattle.frame.specs.Reading.{message_in}
 use Rattle.image.specs.Image.{sound, entries_of}
 use Rattle.image.proofs.ImageLaws.{sound_is, sound_fits}
 use Rattle.store.specs.Held.{find}
 use Rattle.store.specs.Lookup.{finding_of, value_for, lookup_answer, value_part}
-use Rattle.store.specs.declared.Looked.{Looked}
-use Rattle.store.specs.declared.Looked.TheVariants as looked
+use Rattle.store.specs.declared.Finding.{Finding as Found}
+use Rattle.store.specs.declared.Finding.TheVariants as found
+use Rattle.std.specs.Prelude.{Result, Ok}
+use Rattle.wire.specs.declared.Span.{Span}
+use Rattle.entry.specs.declared.EntryAt.{EntryAt}
 use Rattle.store.specs.Unchecked.{lookup_unchecked}
 use Rattle.store.specs.Overtaken.{overtaken, overtaken_unchecked}
 use Rattle.store.proofs.HeldLaws.{find_some}
@@ -42,8 +38,7 @@ use Rattle.store.proofs.Members.{all_fit}
 use Rattle.store.proofs.OnSound.{unchecked_on_sound}
 use Rattle.store.proofs.Looking.{value_stands}
 use Rattle.store.proofs.Overtaking.{overtaken_on_sound}
-use Rattle.node.specs.Handler.{refused, offered, write_locally, take_replica, gets, serve, serve_outcome}
-use Rattle.node.specs.Request.{refusal_in}
+use Rattle.node.specs.Handler.{refused, offered, write_locally, take_replica, gets, serve}
 
 -- ---- the clock's answer
 module _ (s : List ℕ) (c n : Clock) where
@@ -80,14 +75,14 @@ module _ (s : List ℕ) (c n : Clock) where
 
 -- ---- the store's answer to a GET
 module _ (s : List ℕ) (h : sound s ≡ true) (key : List ℕ) where
-  pub looked_as : (c : Clock) (l k : Looked) → finding_of l ≡ lookup_unchecked s key → l ≡ k
+  pub looked_as : (c : Clock) (l k : Result Found Refusal) → finding_of l ≡ lookup_unchecked s key → l ≡ k
       → gets s c (value_part s key) (finding_of k) ≡ gets s c (value_part s key) (lookup_answer s key)
   looked_as c l k told e = ap (gets s c (value_part s key)) (sym (ap finding_of e) ∙ told ∙ (unchecked_on_sound s h).lookup key)
 
   -- the place that was given lies in the store, and the value stands there
-  pub value_at_lem : (l : Looked) (at len : ℕ) → finding_of l ≡ lookup_unchecked s key → l ≡ looked.Value at len
-      → (at + len ≤ length s) × (field at len s ≡ value_part s key)
-  value_at_lem l at len told e = value_stands s key at len (sym ((unchecked_on_sound s h).lookup key) ∙ sym told ∙ ap finding_of e)
+  pub value_at_lem : (l : Result Found Refusal) (p : Span) → finding_of l ≡ lookup_unchecked s key → l ≡ Ok (found.Value p)
+      → (p.at + p.len ≤ length s) × (field p.at p.len s ≡ value_part s key)
+  value_at_lem l p told e = value_stands s key p.at p.len (sym ((unchecked_on_sound s h).lookup key) ∙ sym told ∙ ap finding_of e)
 
   found_fits : (o : Option Entry) → find key (entries_of s) ≡ o → length (value_for o) ≤ 512
   unfolding value_for
@@ -107,64 +102,37 @@ module _ (s : List ℕ) (h : sound s ≡ true) (key : List ℕ) where
 
 -- ---- the reader's answer
 module _ (s : List ℕ) (c : Clock) (now : ℕ) (frame : List ℕ) where
-  -- a refusal leaves with its number
-  pub not_read : (o : Read) (r : Refusal) → o ≡ read.Refused r → refused (number (refusal_in o)) ≡ serve_outcome s c now (meaning frame o)
-  unfolding serve_outcome
-  not_read o r e = rw e
-
-  pub was_read : (o : Read) (m : Located) → o ≡ read.Message m → serve s c now (message_in frame m) ≡ serve_outcome s c now (meaning frame o)
-  unfolding serve_outcome
-  was_read o m e = rw e
-
   module _ (m : Located) where
-    pub got : (ka kl : ℕ) (k : List ℕ) → m ≡ Get ka kl → k ≡ field ka kl frame
+    pub got : (p : Span) (k : List ℕ) → m ≡ Get p → k ≡ field p.at p.len frame
         → gets s c (value_part s k) (lookup_answer s k) ≡ serve s c now (message_in frame m)
     unfolding serve
-    got ka kl k e p = rw (e, p)
+    got p k e q = rw (e, q)
 
-    pub deleted : (ka kl : ℕ) (k : List ℕ) → m ≡ Del ka kl → k ≡ field ka kl frame
+    pub deleted : (p : Span) (k : List ℕ) → m ≡ Del p → k ≡ field p.at p.len frame
         → write_locally s k [] 1 (send_step c now) ≡ serve s c now (message_in frame m)
     unfolding serve
-    deleted ka kl k e p = rw (e, p)
+    deleted p k e q = rw (e, q)
 
-    pub put : (ka kl va vl : ℕ) (k v : List ℕ) → m ≡ Put ka kl va vl → k ≡ field ka kl frame → v ≡ field va vl frame
-        → write_locally s k v 0 (send_step c now) ≡ serve s c now (message_in frame m)
+    pub put : (p v : Span) (k b : List ℕ) → m ≡ Put p v → k ≡ field p.at p.len frame → b ≡ field v.at v.len frame
+        → write_locally s k b 0 (send_step c now) ≡ serve s c now (message_in frame m)
     unfolding serve
-    put ka kl va vl k v e p q = rw (e, p, q)
+    put p v k b e q r = rw (e, q, r)
 
-    pub replicated : (ka kl va vl f : ℕ) (t : Stamp) (k v : List ℕ) → m ≡ Repl ka kl va vl f t → k ≡ field ka kl frame → v ≡ field va vl frame
-        → take_replica s (entry_of k v f t) (receive_step c t.phys t.logical now) ≡ serve s c now (message_in frame m)
+    pub replicated : (t : EntryAt) (e : Entry) → m ≡ Repl t
+        → e ≡ entry_of (field t.key.at t.key.len frame) (field t.value.at t.value.len frame) t.flag t.stamp
+        → take_replica s e (receive_step c e.stamp.phys e.stamp.logical now) ≡ serve s c now (message_in frame m)
     unfolding serve
-    replicated ka kl va vl f t k v e p q = rw (e, p, q)
-
-  below_4 : (x : ℕ) → x < 4 → OneOf (4 ∷ 5 ∷ 6 ∷ 7 ∷ []) x → ⊥
-  below_4 x l (inl p) = omega arith
-  below_4 x l (inr (inl p)) = omega arith
-  below_4 x l (inr (inr (inl p))) = omega arith
-  below_4 x l (inr (inr (inr p))) = omega arith
+    replicated t e q r = rw (q, r)
 
   -- a reply is no request
-  pub no_request : (m : Located) → OneOf (4 ∷ 5 ∷ 6 ∷ 7 ∷ []) (tag_of the-message m) → refused 3 ≡ serve s c now (message_in frame m)
+  pub no_request : (m : Located) → ((k v : Span) → m ≡ Put k v → ⊥) → ((k : Span) → m ≡ Get k → ⊥) → ((k : Span) → m ≡ Del k → ⊥)
+      → ((e : EntryAt) → m ≡ Repl e → ⊥) → refused 3 ≡ serve s c now (message_in frame m)
   unfolding serve
-  no_request (Put ka kl va vl) h = absurd (below_4 0 (omega arith) h)
-  no_request (Get ka kl) h = absurd (below_4 1 (omega arith) h)
-  no_request (Del ka kl) h = absurd (below_4 2 (omega arith) h)
-  no_request (Repl ka kl va vl f t) h = absurd (below_4 3 (omega arith) h)
-  no_request Ok h = refl
-  no_request (Value va vl) h = refl
-  no_request NotFound h = refl
-  no_request (Err n) h = refl
-
--- the parts of a message lie within its frame
-module _ (frame : List ℕ) (m : Located) (w : Within frame m) where
-  pub del_within : (ka kl : ℕ) → m ≡ Del ka kl → ka + kl ≤ length frame
-  del_within ka kl e = rw e at w
-
-  pub get_within : (ka kl : ℕ) → m ≡ Get ka kl → ka + kl ≤ length frame
-  get_within ka kl e = rw e at w
-
-  pub put_within : (ka kl va vl : ℕ) → m ≡ Put ka kl va vl → (ka + kl ≤ length frame) × (va + vl ≤ length frame)
-  put_within ka kl va vl e = rw e at w
-
-  pub repl_within : (ka kl va vl f : ℕ) (t : Stamp) → m ≡ Repl ka kl va vl f t → (ka + kl ≤ length frame) × (va + vl ≤ length frame)
-  repl_within ka kl va vl f t e = rw e at w
+  no_request (Put k v) p g d r = absurd (p k v refl)
+  no_request (Get k) p g d r = absurd (g k refl)
+  no_request (Del k) p g d r = absurd (d k refl)
+  no_request (Repl e) p g d r = absurd (r e refl)
+  no_request OkMessage p g d r = refl
+  no_request (Value v) p g d r = refl
+  no_request NotFound p g d r = refl
+  no_request (ErrMessage n) p g d r = refl

@@ -19,8 +19,9 @@ use Rattle.clock.specs.declared.Clock.{Clock}
 use Rattle.clock.specs.Clock.{Stepped, stamp_of, send_step, receive_step}
 use Rattle.clock.specs.Clock as clock
 use Rattle.clock.proofs.Steps.{StepNumbered, step_numbered, send_numbered, receive_numbered}
-use Rattle.frame.specs.declared.answer.Read.{Read}
-use Rattle.frame.specs.declared.answer.Read.TheVariants as read
+use Rattle.std.specs.Prelude.{Result, Ok, Err}
+use Rattle.entry.specs.declared.Refusal.{Refusal}
+use Rattle.frame.specs.declared.answer.Message.{Message as Located}
 use Rattle.frame.specs.Message.{Message, message_refusal, InRange}
 use Rattle.frame.specs.Message as message
 use Rattle.frame.specs.Layout.{max_frame, frame_of}
@@ -98,9 +99,9 @@ abbrev OutcomeNumbered : Outcome → Type 0
 OutcomeNumbered (reading.message m) = Unit {0}
 OutcomeNumbered (reading.refused n) = Numbered n
 
-meaning_numbered : (s : List ℕ) (r : Read) → OutcomeNumbered (meaning s r)
-meaning_numbered s (read.Message m) = tt
-meaning_numbered s (read.Refused r) = (r, refl)
+meaning_numbered : (s : List ℕ) (r : Result Located Refusal) → OutcomeNumbered (meaning s r)
+meaning_numbered s (Ok m) = tt
+meaning_numbered s (Err r) = (r, refl)
 
 read_numbered : (s : List ℕ) → OutcomeNumbered (read_frame s)
 unfolding read_frame

@@ -1,16 +1,9 @@
 -- What the answer of the handler means.
 use Rattle.std.specs.Prelude.{ℕ, ◌≡◌, List}
-use Rattle.entry.specs.Refusal.{number}
+use Rattle.entry.specs.Acceptance.{refusal_number}
 use Rattle.clock.specs.declared.Clock.{Clock}
-use Rattle.node.specs.declared.Reply.{Reply}
-use Rattle.node.specs.declared.Reply.TheVariants.{Done, Refused}
 use Rattle.node.specs.declared.Handled.{Handled}
 use Rattle.node.specs.Handler.{Result, handled}
-
--- the number of the refusal, or 0 if there is none (R199)
-abbrev pub reply_number : Reply → ℕ
-reply_number Done = 0
-reply_number (Refused r) = number r
 
 -- a call's answer and what it leaves are those of a result
 pub record Leaves (x : Result) (r : Handled) (store reply : List ℕ) : Type 0 where
@@ -18,7 +11,7 @@ pub record Leaves (x : Result) (r : Handled) (store reply : List ℕ) : Type 0 w
   pub clock_is : r.clock ≡ x.clock
   pub reply_is : reply ≡ x.reply
   pub written_is : r.written ≡ x.written
-  pub answer_is : reply_number r.answer ≡ x.refusal
+  pub answer_is : refusal_number r.answer ≡ x.refusal
 
 -- the promise of the handler (R197)
 abbrev pub Handles : List ℕ → Clock → ℕ → List ℕ → List ℕ → Handled → List ℕ → List ℕ → Type 0

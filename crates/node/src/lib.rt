@@ -9,36 +9,27 @@ ghost use Rattle.node.specs.Answer.{Handles};
 
 use clock::Clock;
 use entry::{Refusal, TIME_LIMIT};
-use frame::{MAX_FRAME, Read, read};
+use frame::{MAX_FRAME, read};
 use image::is_sound;
-use request::{refuse, serve, why};
+use request::{refuse, serve};
 
-// The least TYPE of a reply.
+// The least TYPE of a reply: a bound, and no kind.
 const FIRST_REPLY: u8 = 16;
 
-// Whether a request was served. A refusal's ERR frame is in the reply, but for NoRoom.
-#[derive(Clone, Copy)]
-pub enum Reply {
-    Done,
-    Refused(Refusal),
-}
-
-// The next clock, how many bytes of the reply buffer hold the reply, and whether the request was served.
-#[derive(Clone, Copy)]
+// The next clock, how many bytes of the reply buffer hold the reply, and whether the request was
+// served. A refusal's ERR frame is in the reply, but for NoRoom.
+#[derive(Clone, Copy, PartialEq, Eq, Debug)]
 pub struct Handled {
     pub clock: Clock,
     pub written: usize,
-    pub answer: Reply,
+    pub answer: Result<(), Refusal>,
 }
 
 // Whether a frame's TYPE is that of a reply.
 fn is_reply(frame: &[u8]) -> bool
     ensures { result ≡ leb 16 (type_in frame.now) }
 {
-    if frame.len() < 3 {
-        return false;
-    }
-    FIRST_REPLY <= frame[2]
+    3 <= frame.len() && FIRST_REPLY <= frame[2]
 }
 
 // Answers a frame at the reading `time`.
@@ -50,25 +41,23 @@ pub fn handle(store: &mut [u8], clock: Clock, time: u64, frame: &[u8], reply: &m
         return Handled {
             clock,
             written: 0,
-            answer: Reply::Refused(Refusal::NoRoom),
+            answer: Err(Refusal::NoRoom),
         };
     }
     if !is_sound(store) {
         return refuse(clock, Refusal::BadStore, reply);
     }
-    if TIME_LIMIT <= time {
-        return refuse(clock, Refusal::BadTime, reply);
-    }
-    if TIME_LIMIT <= clock.phys {
+    if TIME_LIMIT <= time || TIME_LIMIT <= clock.phys {
         return refuse(clock, Refusal::BadTime, reply);
     }
     // before the frame is read: a VALUE that is too large is 3 here, and not 2
     if is_reply(frame) {
         return refuse(clock, Refusal::BadFrame, reply);
     }
+    // the rules name this form, `let .. else`
     let outcome = read(frame);
-    let Read::Message(message) = outcome else {
-        return refuse(clock, why(outcome), reply);
+    let Ok(message) = outcome else {
+        return refuse(clock, outcome.unwrap_err(), reply);
     };
     serve(store, clock, time, frame, message, reply)
 }

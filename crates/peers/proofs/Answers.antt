@@ -5,73 +5,30 @@ use native.Mathlib.Omega.{arith}
 use mathlib.Core.Path.{◌≡◌, refl, sym, ap, ◌∙◌}
 use mathlib.Core.Bool.{Bool, true, false, not, cond, ◌||◌, true≢false}
 use mathlib.Core.List.{List, [], ◌∷◌}
-use lib.ListN.{length, get_or, set, drop, take-append-drop, length-take}
+use lib.ListN.{length, get_or, set, drop, take-append-drop}
 use lib.Seq.{set-append_left}
 use lib.Dec.{eqb, ltb, leb}
-use borrow.Author.Tests.{lt-ltb, le-ltb, ltb-false, le-leb, lt-leb, leb-false, not-false}
+use borrow.Author.Tests.{lt-ltb, le-ltb, ltb-false, lt-leb, leb-false, not-false}
+use Rattle.std.specs.Prelude.{Ok, Err, Some, None, position}
+use Rattle.entry.specs.declared.Refusal.{Refusal}
+use Rattle.entry.specs.Refusal.{number}
+use Rattle.entry.proofs.Numbers.{number_not_0}
 use Rattle.peers.specs.declared.Row.{Row}
 use Rattle.peers.specs.declared.PeerTable.{PeerTable}
-use Rattle.peers.specs.declared.Changed.{Changed}
-use Rattle.peers.specs.Table.{rows_of, has_row, index_of, held_incarnation, on_row, is_own, sound_table, own_alive}
-use Rattle.peers.specs.Event.{Gives, unless_refused, no_row, row_set, with_rows, fresh_answer, add_answer, row_answer, heard_answer, reported_answer, tick_answer}
+use Rattle.peers.specs.Table.{rows_of, has_row, held_incarnation, on_row, is_own, sound_table, own_alive}
+use Rattle.peers.specs.Event.{Gives, unless_refused, no_row, with_rows, fresh_answer, add_answer, row_answer, heard_answer, reported_answer, tick_answer}
 use Rattle.wire.proofs.Tests.{cases, or-false}
-use Rattle.peers.proofs.Scan.{found, not_found_lem, row_at_lem}
+use Rattle.peers.proofs.Scan.{index_of, found, not_found_lem, row_at_lem, place_found, place_none}
 use Rattle.peers.proofs.Sound.{sound_parts}
 
--- a refusal hands back the table that came in, and a success the changed one
-pub refused_gives : (c : Changed) (t u : PeerTable) (n m : ℕ) → Gives c t n → eqb n 0 ≡ false → n ≡ m → Gives c (unless_refused m t u) m
+-- a refusal leaves the table that came in, and a success gives the changed one
+pub refused_gives : (t u : PeerTable) (r : Refusal) (m : ℕ) → number r ≡ m → Gives (Err r) t (unless_refused m t u) m
 unfolding unless_refused
-refused_gives c t u n m g e q = record { table = rw (← q, e) g.table; answer = g.answer ∙ q }
+refused_gives t u r m e = record { table = rw (← e, number_not_0 r); answer = e }
 
-pub done_gives : (c : Changed) (t u : PeerTable) (m : ℕ) → Gives c u 0 → 0 ≡ m → Gives c (unless_refused m t u) m
+pub done_gives : (t u v : PeerTable) (m : ℕ) → v ≡ u → 0 ≡ m → Gives (Ok v) t (unless_refused m t u) m
 unfolding unless_refused
-done_gives c t u m g q = record { table = rw (← q) g.table; answer = g.answer ∙ q }
-
-pub fresh_9 : (now : ℕ) → 2 ^ 48 ≤ now → 9 ≡ fresh_answer now
-unfolding fresh_answer
-fresh_9 now h = rw (le-leb (2 ^ 48) now h)
-
-pub fresh_0 : (now : ℕ) → now < 2 ^ 48 → 0 ≡ fresh_answer now
-unfolding fresh_answer
-fresh_0 now h = rw (lt-leb (2 ^ 48) now h)
-
-module _ (now : ℕ) (t : PeerTable) where
-  pub tick_9 : 2 ^ 48 ≤ now → 9 ≡ tick_answer now t
-  unfolding tick_answer
-  tick_9 h = rw (le-leb (2 ^ 48) now h)
-
-  module _ (h : now < 2 ^ 48) where
-    pub tick_17 : sound_table t ≡ false → 17 ≡ tick_answer now t
-    unfolding tick_answer
-    tick_17 s = rw (lt-leb (2 ^ 48) now h, s)
-
-    pub tick_0 : sound_table t ≡ true → 0 ≡ tick_answer now t
-    unfolding tick_answer
-    tick_0 s = rw (lt-leb (2 ^ 48) now h, s)
-
-module _ (i now : ℕ) (t : PeerTable) where
-  pub add_9 : 2 ^ 48 ≤ now → 9 ≡ add_answer i now t
-  unfolding add_answer
-  add_9 h = rw (le-leb (2 ^ 48) now h)
-
-  module _ (h : now < 2 ^ 48) where
-    pub add_17 : sound_table t ≡ false → 17 ≡ add_answer i now t
-    unfolding add_answer
-    add_17 s = rw (lt-leb (2 ^ 48) now h, s)
-
-    module _ (s : sound_table t ≡ true) where
-      pub add_14 : index_of i (rows_of t) < length (rows_of t) → 14 ≡ add_answer i now t
-      unfolding add_answer
-      add_14 r = rw (lt-leb (2 ^ 48) now h, s, found i (rows_of t) r)
-
-      module _ (r : length (rows_of t) ≤ index_of i (rows_of t)) where
-        pub add_13 : 10 ≤ t.count → 13 ≡ add_answer i now t
-        unfolding add_answer
-        add_13 k = rw (lt-leb (2 ^ 48) now h, s, not_found_lem i (rows_of t) r, le-leb 10 t.count k)
-
-        pub add_0 : t.count < 10 → 0 ≡ add_answer i now t
-        unfolding add_answer
-        add_0 k = rw (lt-leb (2 ^ 48) now h, s, not_found_lem i (rows_of t) r, lt-leb 10 t.count k)
+done_gives t u v m e z = record { table = rw (← z) e; answer = z }
 
 -- ---- an event about a row
 own_first : (i : ℕ) (rows : List Row) → own_alive rows ≡ true → index_of i rows ≡ 0 → is_own i rows ≡ true
@@ -96,7 +53,7 @@ on_row_at i f (r ∷ rows) = cases (eqb r.id i) (λ p. rw p) (λ p. rw (p, on_ro
 
 -- the row of an id changed is the row at its index changed
 pub row-changed : (i k : ℕ) (f : Row → Row) (t : PeerTable) → k ≡ index_of i (rows_of t) → k < length (rows_of t)
-    → row_set k (f (get_or t.rows k no_row)) t ≡ with_rows (on_row i f) t
+    → record { rows = set t.rows k (f (get_or t.rows k no_row)); count = t.count } ≡ with_rows (on_row i f) t
 unfolding with_rows
 row-changed i k f t e h =
     let v = f (get_or t.rows k no_row) in
@@ -110,10 +67,6 @@ module _ (i n : ℕ) (t : PeerTable) (s : sound_table t ≡ true) where
   row_15 e = rw (own_first i (rows_of t) (sound_parts t s).alive e)
 
   module _ (o : index_of i (rows_of t) ≡ 0 → ⊥) where
-    row_11 : length (rows_of t) ≤ index_of i (rows_of t) → 11 ≡ row_answer i n (rows_of t)
-    unfolding row_answer
-    row_11 r = rw (own_not i (rows_of t) o, not_found_lem i (rows_of t) r)
-
     module _ (r : index_of i (rows_of t) < length (rows_of t)) where
       held_here : held_incarnation i (rows_of t) ≡ (get_or t.rows (index_of i (rows_of t)) no_row).incarnation
       held_here = rw (← row_at_lem t (index_of i (rows_of t)) r) (held_at i (rows_of t))
@@ -126,38 +79,33 @@ module _ (i n : ℕ) (t : PeerTable) (s : sound_table t ≡ true) where
       unfolding row_answer
       row_0 l = rw (own_not i (rows_of t) o, found i (rows_of t) r, held_here, le-ltb _ _ l)
 
-module _ (i s n now : ℕ) (t : PeerTable) where
-  pub peer_9 : 2 ^ 48 ≤ now → 9 ≡ reported_answer i s n now t
+own_row : (i : ℕ) (rows : List Row) → has_row i rows ≡ false → is_own i rows ≡ false
+unfolding has_row is_own
+own_row i [] h = refl
+own_row i (r ∷ rows) h = (or-false (eqb r.id i) (has_row i rows) h).0
+
+module _ (i s n now : ℕ) (t : PeerTable) (h : now < 2 ^ 48) (l : s ≤ 2) (u : sound_table t ≡ true) where
+  by_row : reported_answer i s n now t ≡ row_answer i n (rows_of t)
   unfolding reported_answer
-  peer_9 h = rw (le-leb (2 ^ 48) now h)
+  by_row = rw (lt-leb (2 ^ 48) now h, le-ltb 2 s l, u)
 
-  module _ (h : now < 2 ^ 48) where
-    pub peer_state : 2 < s → 17 ≡ reported_answer i s n now t
-    unfolding reported_answer
-    peer_state l = rw (lt-leb (2 ^ 48) now h, lt-ltb 2 s l)
+  pub peer_11 : None ≡ position (λ (r : Row). eqb r.id i) (rows_of t) → 11 ≡ reported_answer i s n now t
+  unfolding row_answer
+  peer_11 e = let none = place_none i (rows_of t) e in rw (by_row, own_row i (rows_of t) none, none)
 
-    module _ (l : s ≤ 2) where
-      pub peer_unsound : sound_table t ≡ false → 17 ≡ reported_answer i s n now t
-      unfolding reported_answer
-      peer_unsound u = rw (lt-leb (2 ^ 48) now h, le-ltb 2 s l, u)
+  module _ (k : ℕ) (e : Some k ≡ position (λ (r : Row). eqb r.id i) (rows_of t)) where
+    at_row : (k ≡ index_of i (rows_of t)) × (k < length (rows_of t))
+    at_row = place_found i (rows_of t) k e
 
-      module _ (u : sound_table t ≡ true) (k : ℕ) (e : k ≡ index_of i (rows_of t)) where
-        by_row : reported_answer i s n now t ≡ row_answer i n (rows_of t)
-        unfolding reported_answer
-        by_row = rw (lt-leb (2 ^ 48) now h, le-ltb 2 s l, u)
+    pub peer_15 : k ≡ 0 → 15 ≡ reported_answer i s n now t
+    peer_15 o = rw by_row (row_15 i n t u (sym at_row.0 ∙ o))
 
-        pub peer_15 : k ≡ 0 → 15 ≡ reported_answer i s n now t
-        peer_15 o = rw by_row (row_15 i n t u (sym e ∙ o))
+    module _ (o : k ≡ 0 → ⊥) where
+      pub peer_12 : n < (get_or t.rows k no_row).incarnation → 12 ≡ reported_answer i s n now t
+      peer_12 q = rw by_row (row_12 i n t u (λ z. o (at_row.0 ∙ z)) (rw at_row.0 at at_row.1) (rw at_row.0 at q))
 
-        module _ (o : k ≡ 0 → ⊥) where
-          pub peer_11 : length (rows_of t) ≤ k → 11 ≡ reported_answer i s n now t
-          peer_11 r = rw by_row (row_11 i n t u (λ z. o (e ∙ z)) (omega arith))
-
-          pub peer_12 : k < length (rows_of t) → n < (get_or t.rows k no_row).incarnation → 12 ≡ reported_answer i s n now t
-          peer_12 r q = rw by_row (row_12 i n t u (λ z. o (e ∙ z)) (omega arith) (rw e at q))
-
-          pub peer_0 : k < length (rows_of t) → (get_or t.rows k no_row).incarnation ≤ n → 0 ≡ reported_answer i s n now t
-          peer_0 r q = rw by_row (row_0 i n t u (λ z. o (e ∙ z)) (omega arith) (rw e at q))
+      pub peer_0 : (get_or t.rows k no_row).incarnation ≤ n → 0 ≡ reported_answer i s n now t
+      peer_0 q = rw by_row (row_0 i n t u (λ z. o (at_row.0 ∙ z)) (rw at_row.0 at at_row.1) (rw at_row.0 at q))
 
 -- ---- what an answer of 0 tells
 passed : (b : Bool) (k m : ℕ) → 0 ≡ cond b (suc k) m → (b ≡ false) × (0 ≡ m)
@@ -224,17 +172,14 @@ module _ (i s n now : ℕ) (t : PeerTable) (z : 0 ≡ reported_answer i s n now 
   pub peer_index : index_of i (rows_of t) < length (rows_of t)
   peer_index = lt_of_not-le (λ h. true≢false (sym (row_present i n (rows_of t) peer-row) ∙ not_found_lem i (rows_of t) h))
 
-  pub peer_in_array : index_of i (rows_of t) < 10
-  peer_in_array = omega (arith, peer_index, (sound_parts t peer-sound).most, length-take t.count t.rows)
-
 pub heard_is : (i n now : ℕ) (t : PeerTable) → reported_answer i 0 n now t ≡ heard_answer i n now t
 unfolding reported_answer heard_answer
 heard_is i n now t = refl
 
--- an event that takes the row of an id, at its index k, to another
-pub row_gives : (c : Changed) (t v : PeerTable) (r : Row) (i k m : ℕ) (f : Row → Row)
-    → Gives c v 0 → v ≡ row_set k r t → r ≡ f (get_or t.rows k no_row) → k ≡ index_of i (rows_of t) → k < length (rows_of t) → 0 ≡ m
-    → Gives c (unless_refused m t (with_rows (on_row i f) t)) m
-row_gives c t v r i k m f g e d x h z =
-    let u = g.table ∙ e ∙ ap (λ (q : Row). row_set k q t) d ∙ row-changed i k f t x h in
-    done_gives c t (with_rows (on_row i f) t) m (record { table = u; answer = g.answer }) z
+-- an event that takes the row of an id to another
+pub row_gives : (t : PeerTable) (r : Row) (i k m : ℕ) (f : Row → Row) → r ≡ f (get_or t.rows k no_row)
+    → Some k ≡ position (λ (r : Row). eqb r.id i) (rows_of t) → 0 ≡ m
+    → Gives (Ok (record { rows = set t.rows k r; count = t.count })) t (unless_refused m t (with_rows (on_row i f) t)) m
+row_gives t r i k m f d e z =
+    let at = place_found i (rows_of t) k e in
+    done_gives t (with_rows (on_row i f) t) _ m (rw d (row-changed i k f t at.0 at.1)) z

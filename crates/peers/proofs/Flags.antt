@@ -5,7 +5,7 @@ use native.Mathlib.Omega.{arith}
 use mathlib.Core.Path.{◌≡◌, refl, sym, ap, ◌∙◌}
 use mathlib.Core.Bool.{Bool, true, false, not, ◌&&◌, ◌||◌, or-true, or-false, and-true, and-false, true≢false}
 use mathlib.Core.List.{List, [], ◌∷◌}
-use lib.ListN.{length, get_or, set, drop, replicate, get_or-replicate}
+use lib.ListN.{length, get_or, set, drop, drop_of_length-le, replicate, get_or-replicate}
 use lib.Seq.{get_or-set_same, get_or-set_other, ext_get_or}
 use lib.Dec.{eqb}
 use borrow.Author.Tests.{eqb-true, eqb-false, not-true}
@@ -18,7 +18,7 @@ use Rattle.peers.specs.Admitted.{admits_row, admits_among, admits, values_from, 
 use Rattle.peers.specs.Event.{no_row}
 use Rattle.peers.specs.Meaning.{FlagsSayAdmitted, HomeAdmitsEveryRow, StandingAdmitsNotDown}
 use Rattle.wire.proofs.Tests.{cases, and-true as parts}
-use Rattle.peers.proofs.Scan.{next_row, past_end}
+use Rattle.peers.proofs.Scan.{next_row}
 use Rattle.peers.proofs.Sound.{sound_parts}
 
 length_values : (f : ℕ → Bool) (k n : ℕ) → length (values_from f k n) ≡ n
@@ -53,24 +53,24 @@ module _ (a : Admission) (t : PeerTable) where
     pub told_all : length flags ≡ 256 → length (rows_of t) ≤ k → flags ≡ admitted_flags a t
     unfolding admits_among
     told_all e h = ext_get_or false flags (admitted_flags a t) (e ∙ sym length_flags) (λ i b.
-        sym (or-false (get_or flags i false)) ∙ (rw (past_end t k h) at (told i (omega arith))) ∙ sym (flag_at_lem i (omega arith)))
+        sym (or-false (get_or flags i false)) ∙ (rw (drop_of_length-le (rows_of t) h) at (told i (omega arith))) ∙ sym (flag_at_lem i (omega arith)))
 
     module _ (h : k < length (rows_of t)) where
-      pub told_skipped : admits_row a (get_or t.rows k no_row) ≡ false → Told flags (k + 1)
+      pub told_skipped : admits_row a (get_or (rows_of t) k no_row) ≡ false → Told flags (k + 1)
       unfolding admits_among
-      told_skipped e i b = rw (next_row t k h, e, and-false (eqb (get_or t.rows k no_row).id i)) at (told i b)
+      told_skipped e i b = rw (next_row (rows_of t) k h, e, and-false (eqb (get_or (rows_of t) k no_row).id i)) at (told i b)
 
-      pub told-set : length flags ≡ 256 → admits_row a (get_or t.rows k no_row) ≡ true → Told (set flags (get_or t.rows k no_row).id true) (k + 1)
+      pub told-set : length flags ≡ 256 → admits_row a (get_or (rows_of t) k no_row) ≡ true → Told (set flags (get_or (rows_of t) k no_row).id true) (k + 1)
       unfolding admits_among
       told-set l e i b =
-          cases (eqb (get_or t.rows k no_row).id i)
+          cases (eqb (get_or (rows_of t) k no_row).id i)
           (λ p.
-          let q : (get_or t.rows k no_row).id ≡ i = eqb-true _ _ p in
-          let u : admits a t i ≡ true = sym (rw (next_row t k h, e, p, or-true) at (told i b)) in
+          let q : (get_or (rows_of t) k no_row).id ≡ i = eqb-true _ _ p in
+          let u : admits a t i ≡ true = sym (rw (next_row (rows_of t) k h, e, p, or-true) at (told i b)) in
           rw (q, get_or-set_same flags i true false (omega arith), u))
           (λ p.
-          let q : i ≡ (get_or t.rows k no_row).id → ⊥ = λ z. eqb-false _ _ p (sym z) in
-          rw (get_or-set_other flags (get_or t.rows k no_row).id i true false q) (rw (next_row t k h, p) at (told i b)))
+          let q : i ≡ (get_or (rows_of t) k no_row).id → ⊥ = λ z. eqb-false _ _ p (sym z) in
+          rw (get_or-set_other flags (get_or (rows_of t) k no_row).id i true false q) (rw (next_row (rows_of t) k h, p) at (told i b)))
 
 pub flags_say_admitted : FlagsSayAdmitted
 flags_say_admitted = flag_at_lem

@@ -1,4 +1,3 @@
-pub mod Rows
 pub mod Scan
 pub mod Sound
 pub mod Answers

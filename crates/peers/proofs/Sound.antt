@@ -1,16 +1,16 @@
 -- When a table is sound, check by check, and what each check of a sound table tells.
-use Prim.Native.Nat.{◌≤◌, ◌<◌}
+use Prim.Native.Nat.{◌≤◌}
 use native.Mathlib.Omega.{arith}
 use mathlib.Core.Path.{◌≡◌}
-use mathlib.Core.Bool.{Bool, true, false, ◌&&◌}
+use mathlib.Core.Bool.{Bool, true, ◌&&◌}
 use lib.ListN.{length, get_or}
 use lib.Dec.{leb, eqb}
-use borrow.Author.Tests.{leb-true, le-leb, lt-leb, eq-eqb, ne_eqb}
+use borrow.Author.Tests.{leb-true, le-leb}
 use Rattle.wire.proofs.Tests.{and-true}
 use Rattle.peers.specs.declared.PeerTable.{PeerTable}
 use Rattle.peers.specs.Table.{rows_of, distinct, own_alive, rows_in_range, sound_table}
 use Rattle.peers.specs.Event.{no_row}
-use Rattle.peers.proofs.Scan.{as_counted, next_row}
+use Rattle.peers.proofs.Scan.{as_counted, row_at_lem, next_row}
 
 pub both : {a b : Bool} → a ≡ true → b ≡ true → a && b ≡ true
 both p q = rw (p, q)
@@ -43,28 +43,7 @@ module _ (t : PeerTable) where
   unfolding sound_table
   sound_of s = both (both (both (both (le-leb _ _ s.some) (le-leb _ _ s.most)) s.apart) s.alive) s.range
 
-  pub sound_none : t.count ≡ 0 → false ≡ sound_table t
-  unfolding sound_table
-  sound_none h = rw (lt-leb 1 t.count (omega arith))
-
-  pub sound-over : 10 < t.count → false ≡ sound_table t
-  unfolding sound_table
-  sound-over h = rw (le-leb 1 t.count (omega arith), lt-leb t.count 10 h)
-
   module _ (e : length t.rows ≡ 10) (p : t.count ≡ 0 → ⊥) (q : t.count ≤ 10) where
-    own_state : own_alive (rows_of t) ≡ eqb (get_or t.rows 0 no_row).state 0
+    pub own_state : own_alive (rows_of t) ≡ eqb (get_or t.rows 0 no_row).state 0
     unfolding own_alive
-    own_state = rw (next_row t 0 (omega (arith, as_counted t e q)))
-
-    pub sound_twice : distinct (rows_of t) ≡ false → false ≡ sound_table t
-    unfolding sound_table
-    sound_twice d = rw (le-leb 1 t.count (omega arith), le-leb t.count 10 q, d)
-
-    module _ (d : distinct (rows_of t) ≡ true) where
-      pub sound_dead : ((get_or t.rows 0 no_row).state ≡ 0 → ⊥) → false ≡ sound_table t
-      unfolding sound_table
-      sound_dead a = rw (le-leb 1 t.count (omega arith), le-leb t.count 10 q, d, own_state, ne_eqb _ _ a)
-
-      pub sound-range : (get_or t.rows 0 no_row).state ≡ 0 → rows_in_range (rows_of t) ≡ sound_table t
-      unfolding sound_table
-      sound-range a = rw (le-leb 1 t.count (omega arith), le-leb t.count 10 q, d, own_state, eq-eqb _ _ a)
+    own_state = rw (next_row (rows_of t) 0 (omega (arith, as_counted t e q)), row_at_lem t 0 (omega (arith, as_counted t e q)))

@@ -1,32 +1,26 @@
 -- The answer of each event and the table after it.
-use Rattle.std.specs.Prelude.{ℕ, ◌+◌, ◌≡◌, cond, not, ◌||◌, List, ◌∷◌, ◌++◌, drop, set, replicate, ltb, leb, eqb}
-use Rattle.entry.specs.Refusal.{number}
+use Rattle.std.specs.Prelude.{ℕ, ◌+◌, ◌≡◌, cond, not, ◌||◌, Result, Ok, Err, List, ◌∷◌, ◌++◌, drop, set, replicate, ltb, leb, eqb}
+use Rattle.entry.specs.declared.Refusal.{Refusal}
+use Rattle.entry.specs.Acceptance.{refusal_number}
 use Rattle.entry.specs.Entry.{bad_time}
 use Rattle.peers.specs.declared.Row.{Row}
 use Rattle.peers.specs.declared.PeerTable.{PeerTable}
-use Rattle.peers.specs.declared.Changed.{Changed}
-use Rattle.peers.specs.declared.PeerAnswer.{PeerAnswer}
-use Rattle.peers.specs.declared.PeerAnswer.TheVariants.{Done, Refused}
 use Rattle.peers.specs.Row.{new_row, heard_row, reported_row, tick_row}
 use Rattle.peers.specs.Table.{rows_of, has_row, held_incarnation, on_row, on_others, is_own, sound_table}
 
--- the number of the refusal, or 0 if there is none (R199)
-abbrev pub answer_number : PeerAnswer → ℕ
-answer_number Done = 0
-answer_number (Refused r) = number r
+-- the table after an event: the one it gives, or after a refusal the one that came in (R29, R229)
+abbrev pub table_after : PeerTable → Result PeerTable Refusal → PeerTable
+table_after t (Ok u) = u
+table_after t (Err r) = t
 
--- what an event hands back: this table, and an answer with this number (R197, R229)
-pub record Gives (c : Changed) (t : PeerTable) (n : ℕ) : Type 0 where
-  pub table : c.table ≡ t
-  pub answer : answer_number c.answer ≡ n
+-- what an event on table t gives: table u after it, and an answer with this number (R197, R229)
+pub record Gives (c : Result PeerTable Refusal) (t u : PeerTable) (n : ℕ) : Type 0 where
+  pub table : table_after t c ≡ u
+  pub answer : refusal_number c ≡ n
 
 -- a refusal hands back the table that came in (R29)
 unfoldable pub unless_refused : ℕ → PeerTable → PeerTable → PeerTable
 unless_refused n t u = cond (eqb n 0) u t
-
--- another row at an index
-abbrev pub row_set : ℕ → Row → PeerTable → PeerTable
-row_set k r t = record { rows = set t.rows k r; count = t.count }
 
 -- ---- a fresh table: 9
 -- a row past the last of a fresh table (R144, R146)

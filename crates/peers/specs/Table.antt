@@ -1,5 +1,5 @@
 -- The rows of a table and when a table is sound.
-use Rattle.std.specs.Prelude.{ℕ, suc, Bool, true, false, cond, not, ◌&&◌, ◌||◌, List, [], ◌∷◌, map, take, leb, eqb}
+use Rattle.std.specs.Prelude.{ℕ, Bool, true, false, cond, not, ◌&&◌, ◌||◌, List, [], ◌∷◌, map, take, leb, eqb}
 use Rattle.peers.specs.declared.Row.{Row}
 use Rattle.peers.specs.declared.PeerTable.{PeerTable}
 use Rattle.peers.specs.Row.{in_range}
@@ -12,11 +12,6 @@ rows_of t = take t.count t.rows
 unfoldable pub has_row : ℕ → List Row → Bool
 has_row i [] = false
 has_row i (r ∷ rows) = eqb r.id i || has_row i rows
-
--- how many rows stand before the first with that id
-unfoldable pub index_of : ℕ → List Row → ℕ
-index_of i [] = 0
-index_of i (r ∷ rows) = cond (eqb r.id i) 0 (suc (index_of i rows))
 
 -- the incarnation held for an id (R19)
 unfoldable pub held_incarnation : ℕ → List Row → ℕ

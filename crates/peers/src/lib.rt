@@ -2,15 +2,15 @@
 // and each event hands it back changed.
 #![tactic(auto)]
 
-ghost use Rattle.std.specs.Prelude.{◌≡◌, ◌+◌, ◌<◌, ◌≤◌, length, drop};
-ghost use Rattle.entry.specs.Refusal.{number};
-ghost use Rattle.peers.specs.Row.{age_at, in_range, new_row, heard_row, reported_row, tick_row};
-ghost use Rattle.peers.specs.Table.{rows_of, index_of, sound_table, rows_in_range, distinct, on_others};
+ghost use Rattle.std.specs.Prelude.{◌≡◌, ◌==◌, Some, position, IfOk};
+ghost use Rattle.entry.specs.Acceptance.{refusal_number};
+ghost use Rattle.peers.specs.Row.{in_range, new_row, heard_row, reported_row, tick_row};
+ghost use Rattle.peers.specs.Table.{rows_of, has_row, sound_table, rows_in_range, distinct, on_others};
 ghost use Rattle.peers.specs.Admitted.{admits_row, admitted_flags};
-ghost use Rattle.peers.specs.Event.{Gives, answer_number, with_rows, row_set, fresh_answer, after_fresh, add_answer, after_add};
+ghost use Rattle.peers.specs.Event.{Gives, with_rows, empty_table, fresh_answer, after_fresh, add_answer, after_add};
 ghost use Rattle.peers.specs.Event.{heard_answer, after_heard, reported_answer, after_reported, tick_answer, after_tick};
 
-use entry::{Refusal, TIME_LIMIT, later};
+use entry::{Refusal, TIME_LIMIT};
 
 // What is thought of a peer.
 pub const ALIVE: u8 = 0;
@@ -25,8 +25,8 @@ pub const SUSPECT_AGE: u64 = 5_000;
 
 pub const DOWN_AGE: u64 = 15_000;
 
-// What is held of a peer. Any state may be given, so it is a number.
-#[derive(Clone, Copy)]
+// What is held of a peer. The C interface may give any state, so it is a number.
+#[derive(Clone, Copy, Debug, PartialEq, Eq)]
 pub struct Row {
     pub id: u8,
     pub address: u32,
@@ -36,29 +36,16 @@ pub struct Row {
     pub last_seen: u64,
 }
 
-// The rows below `count` are the table's; the own row is the first.
-#[derive(Clone, Copy)]
+// The rows below `count` are the table's; the own row is the first. An array with its count, since
+// the rules name this form and any count may be given.
+#[derive(Clone, Copy, Debug, PartialEq, Eq)]
 pub struct PeerTable {
     pub rows: [Row; 10],
     pub count: u8,
 }
 
-// Whether an event was taken.
-#[derive(Clone, Copy)]
-pub enum PeerAnswer {
-    Done,
-    Refused(Refusal),
-}
-
-// The table after an event, and the event's answer.
-#[derive(Clone, Copy)]
-pub struct Changed {
-    pub table: PeerTable,
-    pub answer: PeerAnswer,
-}
-
 // Which peers the owner walk may take: every peer with a row, or those not DOWN.
-#[derive(Clone, Copy)]
+#[derive(Clone, Copy, Debug, PartialEq, Eq)]
 pub enum Admission {
     Home,
     Standing,
@@ -66,13 +53,6 @@ pub enum Admission {
 
 // A flag for each id.
 pub type Flags = [bool; 256];
-
-// How long ago `seen` was, 0 if `now` is earlier.
-fn age(seen: u64, now: u64) -> u64
-    ensures { result ≡ age_at seen now }
-{
-    if seen < now { now - seen } else { 0 }
-}
 
 impl Row {
     // A row past the last.
@@ -98,24 +78,24 @@ impl Row {
         }
     }
 
+    #[tactic(auto, unfolding(crate::specs::Row::in_range))]
     fn is_in_range(self) -> bool
         ensures { result ≡ in_range self }
     {
-        if DOWN < self.state {
-            return false;
-        }
-        self.last_seen < TIME_LIMIT
+        self.state <= DOWN && self.last_seen < TIME_LIMIT
     }
 
+    #[tactic(auto, unfolding(crate::specs::Row::heard_row))]
     fn heard(mut self, incarnation: u32, now: u64) -> Row
         ensures { result ≡ heard_row incarnation now self }
     {
         self.state = ALIVE;
         self.incarnation = incarnation;
-        self.last_seen = later(self.last_seen, now);
+        self.last_seen = self.last_seen.max(now);
         self
     }
 
+    #[tactic(auto, unfolding(crate::specs::Row::reported_row))]
     fn reported(mut self, state: u8, incarnation: u32, now: u64) -> Row
         ensures { result ≡ reported_row state incarnation now self }
     {
@@ -123,20 +103,19 @@ impl Row {
             self.incarnation = incarnation;
             self.state = state;
             if state == ALIVE {
-                self.last_seen = later(self.last_seen, now);
+                self.last_seen = self.last_seen.max(now);
             }
             return self;
         }
-        if self.state < state {
-            self.state = state;
-        }
+        self.state = self.state.max(state);
         self
     }
 
+    #[tactic(auto, unfolding(crate::specs::Row::tick_row, crate::specs::Row::tick_state, crate::specs::Row::age_at))]
     fn ticked(mut self, now: u64) -> Row
         ensures { result ≡ tick_row now self }
     {
-        let age = age(self.last_seen, now);
+        let age = now.saturating_sub(self.last_seen);
         if DOWN_AGE <= age {
             self.state = DOWN;
             return self;
@@ -159,248 +138,186 @@ impl Row {
     }
 }
 
+// Whether a row has the id.
+fn has_id(rows: &[Row], id: u8) -> bool
+    ensures { result ≡ has_row id rows.now }
+{
+    rows.iter().any(|row| row.id == id)
+}
+
 impl PeerTable {
-    fn refused(self, why: Refusal) -> Changed
-        ensures { Gives result self (number why) }
+    // The table's rows: all ten if its count is over 10.
+    fn listed(&self) -> &[Row]
+        ensures { result.now ≡ rows_of self.now }
     {
-        Changed {
-            table: self,
-            answer: PeerAnswer::Refused(why),
-        }
+        let count = self.count.min(MAX_ROWS);
+        &self.rows[..usize::from(count)]
     }
 
-    fn done(self) -> Changed
-        ensures { Gives result self 0 }
+    // Where the first row of this id stands.
+    fn place_of(&self, id: u8) -> Option<usize>
+        ensures { result ≡ position (λ r. r.id == id) (rows_of self.now) }
     {
-        Changed {
-            table: self,
-            answer: PeerAnswer::Done,
-        }
+        self.listed().iter().position(|row| row.id == id)
     }
 
-    // How many rows the table has: ten if its count is over 10.
-    fn row_count(self) -> usize
-        ensures { (result ≡ length (rows_of self)) × (result ≤ 10) }
+    fn ids_are_distinct(&self) -> bool
+        ensures { result ≡ distinct (rows_of self.now) }
     {
-        if MAX_ROWS < self.count {
-            return 10;
-        }
-        self.count as usize
-    }
-
-    // Where the first row of this id stands, from `from` on; the number of rows if there is none.
-    fn index_from(self, from: usize, id: u8) -> usize
-        requires { from ≤ length (rows_of self) }
-        ensures { result ≡ from + index_of id (drop from (rows_of self)) }
-    {
-        let count = self.row_count();
-        let mut i = from;
-        while i < count {
-            let row = self.rows[i];
-            if row.id == id {
-                return i;
-            }
-            i += 1;
-        }
-        i
-    }
-
-    fn ids_are_distinct(self) -> bool
-        ensures { result ≡ distinct (rows_of self) }
-    {
-        let count = self.row_count();
-        let mut i: usize = 0;
-        while i < count {
-            let row = self.rows[i];
-            let next = i + 1;
-            if self.index_from(next, row.id) < count {
+        let rows = self.listed();
+        for (i, row) in rows.iter().enumerate() {
+            if has_id(&rows[i + 1..], row.id) {
                 return false;
             }
-            i = next;
         }
         true
     }
 
-    fn rows_are_in_range(self) -> bool
-        ensures { result ≡ rows_in_range (rows_of self) }
+    fn rows_are_in_range(&self) -> bool
+        ensures { result ≡ rows_in_range (rows_of self.now) }
     {
-        let count = self.row_count();
-        let mut i: usize = 0;
-        while i < count {
-            let row = self.rows[i];
-            if !row.is_in_range() {
-                return false;
-            }
-            i += 1;
-        }
-        true
+        self.listed().iter().all(|row| row.is_in_range())
     }
 
+    #[tactic(auto, unfolding(crate::specs::Table::sound_table), using(crate::proofs::Sound::own_state))]
     pub fn is_sound(self) -> bool
         ensures { result ≡ sound_table self }
     {
-        if self.count == 0 {
+        if self.count == 0 || MAX_ROWS < self.count {
             return false;
         }
-        if MAX_ROWS < self.count {
-            return false;
-        }
-        if !self.ids_are_distinct() {
-            return false;
-        }
-        let own = self.rows[0];
-        if own.state != ALIVE {
-            return false;
-        }
-        self.rows_are_in_range()
+        self.ids_are_distinct() && self.rows[0].state == ALIVE && self.rows_are_in_range()
     }
 
-    // The table with another row at `at`.
-    fn with_row(mut self, at: usize, row: Row) -> PeerTable
-        requires { at < 10 }
-        ensures { result ≡ row_set at row self }
+    // A table with the own row alone. A row's fields are given one by one, here and in `add`: a
+    // `Row` has a state and a time last seen too, which are not given.
+    #[tactic(auto, unfolding(crate::specs::Event::after_fresh, crate::specs::Event::fresh_table, crate::specs::Event::fresh_answer, crate::specs::Event::unless_refused))]
+    pub fn fresh(
+        id: u8,
+        address: u32,
+        port: u16,
+        incarnation: u32,
+        now: u64,
+    ) -> Result<PeerTable, Refusal>
+        ensures { Gives result empty_table (after_fresh id address port incarnation now) (fresh_answer now) }
     {
-        self.rows[at] = row;
-        self
-    }
-
-    // A table with the own row alone; a table with no row if it is refused.
-    pub fn fresh(id: u8, address: u32, port: u16, incarnation: u32, now: u64) -> Changed
-        ensures { Gives result (after_fresh id address port incarnation now) (fresh_answer now) }
-    {
+        if TIME_LIMIT <= now {
+            return Err(Refusal::BadTime);
+        }
         let mut rows = [Row::NONE; 10];
-        if TIME_LIMIT <= now {
-            let empty = PeerTable { rows, count: 0 };
-            return empty.refused(Refusal::BadTime);
-        }
-        let own = Row::new(id, address, port, incarnation, now);
-        rows[0] = own;
-        let table = PeerTable { rows, count: 1 };
-        table.done()
+        rows[0] = Row::new(id, address, port, incarnation, now);
+        Ok(PeerTable { rows, count: 1 })
     }
 
-    pub fn add(self, id: u8, address: u32, port: u16, incarnation: u32, now: u64) -> Changed
-        ensures { Gives result (after_add id address port incarnation now self) (add_answer id now self) }
+    #[tactic(auto, unfolding(crate::specs::Event::after_add, crate::specs::Event::added_table, crate::specs::Event::add_answer, crate::specs::Event::unless_refused))]
+    pub fn add(
+        mut self,
+        id: u8,
+        address: u32,
+        port: u16,
+        incarnation: u32,
+        now: u64,
+    ) -> Result<PeerTable, Refusal>
+        ensures { Gives result self (after_add id address port incarnation now self) (add_answer id now self) }
     {
         if TIME_LIMIT <= now {
-            return self.refused(Refusal::BadTime);
+            return Err(Refusal::BadTime);
         }
         if !self.is_sound() {
-            return self.refused(Refusal::BadArgument);
+            return Err(Refusal::BadArgument);
         }
-        if self.index_from(0, id) < self.row_count() {
-            return self.refused(Refusal::PeerKnown);
+        if has_id(self.listed(), id) {
+            return Err(Refusal::PeerKnown);
         }
-        let count = self.count;
-        if MAX_ROWS <= count {
-            return self.refused(Refusal::TableFull);
+        if MAX_ROWS <= self.count {
+            return Err(Refusal::TableFull);
         }
-        let row = Row::new(id, address, port, incarnation, now);
-        let mut table = self.with_row(count as usize, row);
-        table.count = count + 1;
-        table.done()
+        self.rows[usize::from(self.count)] = Row::new(id, address, port, incarnation, now);
+        self.count += 1;
+        Ok(self)
     }
 
-    // The checks of an event about a peer with a row: 9, 17, 15, 11 and 12.
-    fn judge(self, id: u8, state: u8, incarnation: u32, now: u64) -> PeerAnswer
-        ensures { answer_number result ≡ reported_answer id state incarnation now self }
+    // The checks of an event about a peer with a row: 9, 17, 15, 11 and 12. Where that row stands.
+    #[tactic(auto, unfolding(crate::specs::Event::reported_answer, crate::specs::Event::row_answer))]
+    fn judge(&self, id: u8, state: u8, incarnation: u32, now: u64) -> Result<usize, Refusal>
+        ensures told { refusal_number result ≡ reported_answer id state incarnation now self.now }
+        ensures place { IfOk result (λ k. Some k ≡ position (λ r. r.id == id) (rows_of self.now)) }
     {
         if TIME_LIMIT <= now {
-            return PeerAnswer::Refused(Refusal::BadTime);
+            return Err(Refusal::BadTime);
         }
-        if DOWN < state {
-            return PeerAnswer::Refused(Refusal::BadArgument);
+        if DOWN < state || !self.is_sound() {
+            return Err(Refusal::BadArgument);
         }
-        if !self.is_sound() {
-            return PeerAnswer::Refused(Refusal::BadArgument);
-        }
-        let at = self.index_from(0, id);
+        let Some(at) = self.place_of(id) else {
+            return Err(Refusal::UnknownPeer);
+        };
         if at == 0 {
-            return PeerAnswer::Refused(Refusal::OwnPeer);
+            return Err(Refusal::OwnPeer);
         }
-        if self.row_count() <= at {
-            return PeerAnswer::Refused(Refusal::UnknownPeer);
+        if incarnation < self.rows[at].incarnation {
+            return Err(Refusal::Stale);
         }
-        let row = self.rows[at];
-        if incarnation < row.incarnation {
-            return PeerAnswer::Refused(Refusal::Stale);
-        }
-        PeerAnswer::Done
+        Ok(at)
     }
 
     // A peer was heard directly.
-    pub fn heard(self, id: u8, incarnation: u32, now: u64) -> Changed
-        ensures { Gives result (after_heard id incarnation now self) (heard_answer id incarnation now self) }
+    pub fn heard(mut self, id: u8, incarnation: u32, now: u64) -> Result<PeerTable, Refusal>
+        ensures { Gives result self (after_heard id incarnation now self) (heard_answer id incarnation now self) }
     {
-        let answer = self.judge(id, ALIVE, incarnation, now);
-        match answer {
-            PeerAnswer::Refused(why) => self.refused(why),
-            PeerAnswer::Done => {
-                let at = self.index_from(0, id);
-                let row = self.rows[at];
-                self.with_row(at, row.heard(incarnation, now)).done()
-            }
-        }
+        let at = self.judge(id, ALIVE, incarnation, now)?;
+        self.rows[at] = self.rows[at].heard(incarnation, now);
+        Ok(self)
     }
 
     // Another peer reported a peer's state.
-    pub fn reported(self, id: u8, state: u8, incarnation: u32, now: u64) -> Changed
-        ensures { Gives result (after_reported id state incarnation now self) (reported_answer id state incarnation now self) }
+    pub fn reported(
+        mut self,
+        id: u8,
+        state: u8,
+        incarnation: u32,
+        now: u64,
+    ) -> Result<PeerTable, Refusal>
+        ensures { Gives result self (after_reported id state incarnation now self) (reported_answer id state incarnation now self) }
     {
-        let answer = self.judge(id, state, incarnation, now);
-        match answer {
-            PeerAnswer::Refused(why) => self.refused(why),
-            PeerAnswer::Done => {
-                let at = self.index_from(0, id);
-                let row = self.rows[at];
-                self.with_row(at, row.reported(state, incarnation, now))
-                    .done()
-            }
-        }
+        let at = self.judge(id, state, incarnation, now)?;
+        self.rows[at] = self.rows[at].reported(state, incarnation, now);
+        Ok(self)
     }
 
     // Every row but the own, ticked.
     fn ticked(mut self, now: u64) -> PeerTable
         ensures { result ≡ with_rows (on_others (tick_row now)) self }
     {
-        let count = self.row_count();
-        let mut i: usize = 1;
-        while i < count {
-            let row = self.rows[i];
-            let next = row.ticked(now);
-            self.rows[i] = next;
-            i += 1;
+        for i in 1..self.listed().len() {
+            self.rows[i] = self.rows[i].ticked(now);
         }
         self
     }
 
     // Time has passed.
-    pub fn tick(self, now: u64) -> Changed
-        ensures { Gives result (after_tick now self) (tick_answer now self) }
+    #[tactic(auto, unfolding(crate::specs::Event::after_tick, crate::specs::Event::tick_answer, crate::specs::Event::unless_refused))]
+    pub fn tick(self, now: u64) -> Result<PeerTable, Refusal>
+        ensures { Gives result self (after_tick now self) (tick_answer now self) }
     {
         if TIME_LIMIT <= now {
-            return self.refused(Refusal::BadTime);
+            return Err(Refusal::BadTime);
         }
         if !self.is_sound() {
-            return self.refused(Refusal::BadArgument);
+            return Err(Refusal::BadArgument);
         }
-        self.ticked(now).done()
+        Ok(self.ticked(now))
     }
 
     // For each id, whether it is admitted.
     pub fn admitted(self, admission: Admission) -> Flags
         ensures { result ≡ admitted_flags admission self }
     {
-        let count = self.row_count();
         let mut flags = [false; 256];
-        let mut i: usize = 0;
-        while i < count {
-            let row = self.rows[i];
+        for row in self.listed() {
             if row.is_admitted(admission) {
-                let at = row.id as usize;
-                flags[at] = true;
+                flags[usize::from(row.id)] = true;
             }
-            i += 1;
         }
         flags
     }

@@ -2,23 +2,14 @@
 #![tactic(auto)]
 
 use checksum::{crc32c, fmix32};
-use clock::{Clock, SendAnswer};
+use clock::Clock;
 use entry::Refusal;
-use frame::{MAX_FRAME, Wrote, write_get, write_not_found, write_value};
+use frame::{MAX_FRAME, write_get, write_not_found, write_value};
 use std::io;
-
-fn print_refusal(rt: &impl Print, refusal: Refusal) -> io::Result<()> {
-    let number = refusal.number();
-    print!(rt; "refusal {number}")
-}
-
-fn print_byte(rt: &impl Print, byte: u8) -> io::Result<()> {
-    print!(rt; "{byte:02x}")
-}
 
 fn print_bytes(rt: &impl Print, bytes: &[u8]) -> io::Result<()> {
     for byte in bytes {
-        print_byte(rt, *byte)?;
+        print!(rt; "{byte:02x}")?;
     }
     println!(rt)
 }
@@ -72,17 +63,17 @@ fn print_send_at_p(rt: &impl Print) -> io::Result<()> {
     };
     let sent = clock.send(clock.phys);
     match sent.answer {
-        SendAnswer::Stamped(_) => print!(rt; "a stamp")?,
-        SendAnswer::Refused(refusal) => print_refusal(rt, refusal)?,
+        Ok(_) => print!(rt; "a stamp")?,
+        Err(refusal) => print!(rt; "{refusal}")?,
     }
     print_clock(rt, sent.clock)
 }
 
 // What a writer answered, and the checksum of the whole buffer that it was lent.
-fn print_wrote(rt: &impl Print, wrote: Wrote, out: &[u8]) -> io::Result<()> {
+fn print_wrote(rt: &impl Print, wrote: Result<usize, Refusal>, out: &[u8]) -> io::Result<()> {
     match wrote {
-        Wrote::Bytes(n) => print!(rt; "{n} bytes")?,
-        Wrote::Refused(refusal) => print_refusal(rt, refusal)?,
+        Ok(n) => print!(rt; "{n} bytes")?,
+        Err(refusal) => print!(rt; "{refusal}")?,
     }
     print!(rt; ", buffer ")?;
     print_word(rt, crc32c(out))

@@ -1,6 +1,6 @@
 -- What holds of the replay program from turn to turn.
-use Rattle.std.specs.Prelude.{ℕ, ◌+◌, ◌-◌, ◌≤◌, ◌<◌, ◌≡◌, Bool, true, false, cond, List, [], ◌∷◌, ◌++◌, length, take, drop, eqb}
-use Rattle.clock.specs.declared.Clock.{Clock}
+use Rattle.std.specs.Prelude.{ℕ, ◌+◌, ◌-◌, ◌≤◌, ◌<◌, ◌≡◌, Bool, true, false, cond, List, [], ◌∷◌, ◌++◌, length, take, eqb, Option, Some, None}
+use Rattle.wire.specs.Fill.{field}
 use Rattle.replayer.specs.declared.Next.{Next}
 use Rattle.replayer.specs.declared.Next.TheVariants.{Read, Write, Stop}
 use Rattle.replayer.specs.declared.Progress.{Progress}
@@ -9,10 +9,14 @@ use Rattle.replay.specs.declared.State.{State}
 
 -- the buffers have 65,536 bytes, and the input that is not yet taken lies within its own
 pub record Fits (input output : List ℕ) (s : State) : Type 0 where
-  pub order : s.at ≤ s.end
-  pub within : s.end ≤ length input
+  pub within : s.rest.at + s.rest.len ≤ length input
   pub inputs : length input ≡ 65536
   pub outputs : length output ≡ 65536
+
+-- after a turn, unless the program has ended
+abbrev pub FitsAfter : List ℕ → List ℕ → Option State → Type 0
+FitsAfter input output (Some s) = Fits input output s
+FitsAfter input output None = Unit {0}
 
 -- what has happened: the calls while the input came, the outputs of those since it ended, and the
 -- bytes that came since the last call
@@ -32,40 +36,45 @@ one_more ended h more = record {
 -- the program stands where the calls have left it, with what came since
 pub record Stands (h : History) (store reply input : List ℕ) (s : State) : Type 0 where
   pub kept_is : (drained h.calls h.rooms).kept ≡ record { store = store; clock = s.clock; reply = reply }
-  pub rest_is : (drained h.calls h.rooms).rest ++ h.came ≡ take (s.end - s.at) (drop s.at input)
+  pub rest_is : (drained h.calls h.rooms).rest ++ h.came ≡ field s.rest.at s.rest.len input
   pub open_ended : s.ended ≡ false → h.rooms ≡ []
   pub no_more_read : s.ended ≡ true → h.came ≡ []
-  pub goes : s.going ≡ true → is_stop (drained h.calls h.rooms).next ≡ false
+
+-- and goes on from a state, or has ended in one
+abbrev pub StandsAfter : History → List ℕ → List ℕ → List ℕ → Option State → Type 0
+StandsAfter h store reply input (Some s) = Stands h store reply input s × (is_stop (drained h.calls h.rooms).next ≡ false)
+StandsAfter h store reply input None = (s : State) × Stands h store reply input s
 
 -- a turn is one call, and reading what more came (R164)
-abbrev pub TurnIsOneCall : List ℕ → List ℕ → List ℕ → State → List ℕ → List ℕ → List ℕ → State → Type 0
-TurnIsOneCall store reply input s store' reply' input' r =
-    (h : History) → Stands h store reply input s → (more : List ℕ) × Stands (one_more s.ended h more) store' reply' input' r
+abbrev pub TurnIsOneCall : List ℕ → List ℕ → List ℕ → State → List ℕ → List ℕ → List ℕ → Option State → Type 0
+TurnIsOneCall store reply input s store' reply' input' r = (h : History) → StandsAfter h store reply input (Some s)
+    → (more : List ℕ) × StandsAfter (one_more s.ended h more) store' reply' input' r
 
--- the bytes from at to end stand at the front, with those behind them that came; none came if the
--- input has ended
-pub record Refilled (input : List ℕ) (clock : Clock) (at end : ℕ) (s : State) (input' : List ℕ) : Type 0 where
-  pub clock_is : s.clock ≡ clock
-  pub at_is : s.at ≡ 0
-  pub longer : end - at ≤ s.end
-  pub within : s.end ≤ length input
-  pub kept : take (end - at) input' ≡ take (end - at) (drop at input)
-  pub ended_is : s.ended ≡ eqb (s.end - (end - at)) 0
-  pub going_is : s.going ≡ true
+-- the bytes that are left of a state s stand at the front, with those behind them that came; none
+-- came if the input has ended
+pub record Refilled (input : List ℕ) (s r : State) (input' : List ℕ) : Type 0 where
+  pub clock_is : r.clock ≡ s.clock
+  pub at_is : r.rest.at ≡ 0
+  pub longer : s.rest.len ≤ r.rest.len
+  pub within : r.rest.len ≤ length input
+  pub kept : take s.rest.len input' ≡ field s.rest.at s.rest.len input
+  pub ended_is : r.ended ≡ eqb (r.rest.len - s.rest.len) 0
 
 -- the state past a call
-abbrev pub past_call : State → Progress → Bool → State
-past_call s p going = record { clock = p.clock; at = s.at + p.taken; end = s.end; ended = s.ended; going = going }
+abbrev pub past_call : State → Progress → State
+past_call s p = record { clock = p.clock; rest = record { at = s.rest.at + p.taken; len = s.rest.len - p.taken }; ended = s.ended }
 
 -- a call took no more than had come, and where it asks for more input there is room for some
 pub record CanGoOn (input : List ℕ) (s : State) (p : Progress) : Type 0 where
-  pub order : s.at + p.taken ≤ s.end
-  pub within : s.end ≤ length input
-  pub room : p.next ≡ Read → s.end - (s.at + p.taken) < length input
+  pub order : p.taken ≤ s.rest.len
+  pub within : s.rest.at + s.rest.len ≤ length input
+  pub inputs : length input ≡ 65536
+  pub room : p.next ≡ Read → s.rest.len - p.taken < length input
 
 -- what a call asks for is done: more is read, or the rest is left for the next call, or the replay
 -- stops
-abbrev pub GoesOn : Next → List ℕ → State → Progress → State → List ℕ → Type 0
-GoesOn Read input s p r input' = Refilled input p.clock (s.at + p.taken) s.end r input'
-GoesOn Write input s p r input' = (r ≡ past_call s p true) × (input' ≡ input)
-GoesOn Stop input s p r input' = (r ≡ past_call s p false) × (input' ≡ input)
+abbrev pub GoesOn : Next → List ℕ → State → Progress → Option State → List ℕ → Type 0
+GoesOn Read input s p (Some r) input' = Refilled input (past_call s p) r input'
+GoesOn Read input s p None input' = ⊥
+GoesOn Write input s p r input' = (r ≡ Some (past_call s p)) × (input' ≡ input)
+GoesOn Stop input s p r input' = (r ≡ None) × (input' ≡ input)

@@ -3,31 +3,31 @@
 // The library answers the records: here bytes are only read, moved and written.
 #![tactic(auto)]
 
-ghost use Rattle.std.specs.Prelude.{◌+◌, ◌-◌, ◌≤◌, ◌<◌, ◌≡◌, true, ◌++◌, length, take, drop, eqb};
+ghost use Rattle.std.specs.Prelude.{◌+◌, ◌≤◌, ◌<◌, ◌≡◌, ◌++◌, length, take, drop};
+ghost use Rattle.wire.specs.Fill.{field};
 ghost use Rattle.replayer.specs.Replies.{start};
-ghost use Rattle.replay.specs.State.{Fits, Refilled, past_call, CanGoOn, GoesOn, TurnIsOneCall};
+ghost use Rattle.replay.specs.State.{Fits, Refilled, past_call, CanGoOn, GoesOn, FitsAfter, TurnIsOneCall};
 
 use clock::Clock;
 use image::layout::MAX_SLOTS;
 use replayer::{Next, Progress, advance};
 use std::io::{Read, Write};
+use wire::Span;
 
-// Input bytes from `at` to `end` are not yet taken. `ended` says that no more follow.
-#[derive(Clone, Copy)]
+// The input bytes of `rest` are not yet taken. `ended` says that no more follow.
+#[derive(Clone, Copy, PartialEq, Eq, Debug)]
 struct State {
     clock: Clock,
-    at: usize,
-    end: usize,
+    rest: Span,
     ended: bool,
-    going: bool,
 }
 
-// Moves the bytes from `at` to `end` to the front; later bytes stay.
-fn move_to_front(buffer: &mut [u8], at: usize, end: usize)
-    requires { (at ≤ end) × (end ≤ length buffer.old) }
-    ensures { buffer.new ≡ take (end - at) (drop at buffer.old) ++ drop (end - at) buffer.old }
+// Moves a part of the buffer to its front; later bytes stay.
+fn move_to_front(buffer: &mut [u8], part: Span)
+    requires { part.at + part.len ≤ length buffer.old }
+    ensures { buffer.new ≡ field part.at part.len buffer.old ++ drop part.len buffer.old }
 {
-    buffer.copy_within(at..end, 0);
+    buffer.copy_within(part.at..part.at + part.len, 0);
 }
 
 // Reads more input behind the first `kept` bytes, which stay, and answers how many bytes came.
@@ -40,58 +40,60 @@ fn read_more<R: Read>(reader: &mut R, input: &mut [u8], kept: usize) -> usize
     reader.read(&mut input[kept..]).unwrap_or(0)
 }
 
-// Reads on behind the bytes from `at` to `end`, which are moved to the front.
-fn refill<R: Read>(reader: &mut R, input: &mut [u8], clock: Clock, at: usize, end: usize) -> State
-    requires { (at ≤ end) × (end ≤ length input.old) × (end - at < length input.old) }
-    ensures { Refilled input.old clock at end result input.new }
+// Reads on behind the bytes that are left, which are moved to the front.
+fn refill<R: Read>(reader: &mut R, input: &mut [u8], state: State) -> State
+    requires { (state.rest.at + state.rest.len ≤ length input.old) × (state.rest.len < length input.old) }
+    ensures { Refilled input.old state result input.new }
 {
-    let kept = end - at;
-    move_to_front(input, at, end);
+    let kept = state.rest.len;
+    move_to_front(input, state.rest);
     let got = read_more(reader, input, kept);
     State {
-        clock,
-        at: 0,
-        end: kept + got,
+        rest: Span {
+            at: 0,
+            len: kept + got,
+        },
         ended: got == 0,
-        going: true,
+        ..state
     }
 }
 
 // The state past a call.
-fn past(state: State, progress: Progress, going: bool) -> State
-    requires { state.at + progress.taken ≤ state.end }
-    ensures { result ≡ past_call state progress going }
+fn past(state: State, progress: Progress) -> State
+    requires { (progress.taken ≤ state.rest.len) × (state.rest.at + state.rest.len ≤ 65536) }
+    ensures { result ≡ past_call state progress }
 {
-    let clock = progress.clock;
     State {
-        clock,
-        at: state.at + progress.taken,
-        end: state.end,
-        ended: state.ended,
-        going,
+        clock: progress.clock,
+        rest: Span {
+            at: state.rest.at + progress.taken,
+            len: state.rest.len - progress.taken,
+        },
+        ..state
     }
 }
 
-// Does what a call asks for once its replies are written.
-fn go_on<R: Read>(reader: &mut R, input: &mut [u8], state: State, progress: Progress) -> State
+// Does what a call asks for once its replies are written. Where the replay stops, no state is left.
+fn go_on<R: Read>(
+    reader: &mut R,
+    input: &mut [u8],
+    state: State,
+    progress: Progress,
+) -> Option<State>
     requires { CanGoOn input.old state progress }
     ensures { GoesOn progress.next input.old state progress result input.new }
 {
-    let next = progress.next;
-    match next {
-        Next::Read => refill(
-            reader,
-            input,
-            progress.clock,
-            state.at + progress.taken,
-            state.end,
-        ),
-        Next::Write => past(state, progress, true),
-        Next::Stop => past(state, progress, false),
+    let next = past(state, progress);
+    match progress.next {
+        Next::Read => Some(refill(reader, input, next)),
+        Next::Write => Some(next),
+        Next::Stop => None,
     }
 }
 
 // Answers what has come, writes the replies, and then goes on. A write that fails ends the replay.
+// Six things are lent, each used once: a struct of them would be taken apart here, so it is no
+// plainer.
 fn turn<R: Read, W: Write>(
     reader: &mut R,
     writer: &mut W,
@@ -100,28 +102,20 @@ fn turn<R: Read, W: Write>(
     input: &mut [u8],
     output: &mut [u8],
     state: State,
-) -> State
-    requires { Fits input.old output.old state × (state.going ≡ true) }
-    ensures within { Fits input.new output.new result }
+) -> Option<State>
+    requires { Fits input.old output.old state }
+    ensures within { FitsAfter input.new output.new result }
     ensures called { TurnIsOneCall
         store.old reply.old input.old state
         store.new reply.new input.new result }
 {
-    let at = state.at;
-    let end = state.end;
-    let progress = advance(
-        store,
-        state.clock,
-        &input[at..end],
-        state.ended,
-        reply,
-        output,
-    );
-    let filled = progress.filled;
-    if writer.write_all(&output[0..filled]).is_ok() {
-        return go_on(reader, input, state, progress);
+    let came = state.rest.of(input);
+    let progress = advance(store, state.clock, came, state.ended, reply, output);
+    let written = writer.write_all(&output[..progress.filled]);
+    if written.is_err() {
+        return None;
     }
-    past(state, progress, false)
+    go_on(reader, input, state, progress)
 }
 
 // A proved loop has to end, and nothing says that the input does, so the turns are counted,
@@ -133,22 +127,22 @@ fn run<R: Read, W: Write>(reader: &mut R, writer: &mut W, store: &mut [u8], repl
     let mut output = [0; 65536];
     let mut state = State {
         clock: Clock::fresh(1),
-        at: 0,
-        end: 0,
+        rest: Span { at: 0, len: 0 },
         ended: false,
-        going: true,
     };
     for _ in 0..u64::MAX {
-        if !state.going {
+        let next = turn(reader, writer, store, reply, &mut input, &mut output, state);
+        let Some(next) = next else {
             break;
-        }
-        state = turn(reader, writer, store, reply, &mut input, &mut output, state);
+        };
+        state = next;
     }
 }
 
 fn main(rt: HostRuntime) {
     let mut store = [0; 59616];
     let mut reply = [0; 600];
-    store::create(&mut store, MAX_SLOTS);
+    // a buffer of that length is always made a store
+    let _ = store::create(&mut store, MAX_SLOTS);
     run(&mut rt.stdin(), &mut rt.stdout(), &mut store, &mut reply);
 }

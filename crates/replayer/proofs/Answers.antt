@@ -2,7 +2,7 @@
 use mathlib.Core.Path.{◌≡◌, ◌∙◌}
 use mathlib.Core.Bool.{true}
 use mathlib.Core.List.{List}
-use Prim.Native.Nat.{ℕ, ◌-◌, ◌≤◌}
+use Prim.Native.Nat.{ℕ, ◌≤◌}
 use native.Mathlib.Omega.{arith}
 use lib.ListN.{length, take, drop, length-take, length-append, length-drop}
 use lib.Dec.{ltb}
@@ -44,7 +44,7 @@ module _ (s : List ℕ) (c : Clock) (t : ℕ) (f b : List ℕ) where
     pub call_within : h.written ≤ length b'
     call_within = rw (g.written_is, g.reply_is, reply_long) written_within
 
-    pub call_short : length (take (h.written - 0) b') ≤ max_frame
+    pub call_short : length (take h.written b') ≤ max_frame
     call_short = rw length-take (omega (arith, g.written_is, reply_at_most_600 s c t f b))
 
 module _ (k : Kept) (r : TimedFrame) where

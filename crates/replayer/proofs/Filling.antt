@@ -13,11 +13,13 @@ use Rattle.wire.specs.Fill.{padded}
 use Rattle.wire.proofs.Fill.{padded_exact}
 use Rattle.wire.proofs.Fields.{rest}
 use Rattle.wire.proofs.Number.{length-be}
+use Rattle.std.specs.Result.{result_unwrap_or}
 use Rattle.frame.specs.Message.{err, message_refusal}
 use Rattle.frame.specs.Layout.{max_frame, type_of, body, frame_of}
-use Rattle.frame.specs.Writing.{write_refusal, after_write}
+use Rattle.frame.specs.Writing.{write_refusal, after_write, Writes}
 use Rattle.frame.proofs.Envelopes.{length-envelope}
 use Rattle.frame.proofs.Bodies.{err_taken}
+use Rattle.frame.proofs.RoundTrips.{written_whole}
 
 -- the bytes put in place of those from a on
 pub put_behind : (a e : ℕ) (r o ys : List ℕ) → e ≡ a + length r → e ≤ length o → ys ≡ r → put_mid a (e - a) o ys ≡ take a o ++ r ++ drop (a + length r) o
@@ -45,6 +47,14 @@ length_err n = length-envelope (type_of (err n)) (body (err n)) ∙ ap (λ (k : 
 
 pub err_3_taken : message_refusal (err 3) ≡ 0
 err_3_taken = let e : ◌≡◌ {A = ℕ} 3 0 → ⊥ = omega arith in err_taken 3 e (omega arith)
+
+pub err_written : (a : ℕ) (o ys : List ℕ) (r : _) → a + max_frame ≤ length o → Writes (err 3) (mid_of a (length o - a) o) r ys → result_unwrap_or r 0 ≡ 9
+err_written a o ys r h w =
+    let l : length (frame_of (err 3)) ≡ 9 = length_err 3 in
+    let d : length (drop a o) ≡ length o - a = length-drop a o in
+    let v = rw (rest a o) at w in
+    let e = (written_whole (err 3) (drop a o) r ys err_3_taken (omega arith) v).0 in
+    rw e l
 
 pub err_put : (a : ℕ) (o ys : List ℕ) → a + max_frame ≤ length o → ys ≡ after_write (message_refusal (err 3)) (frame_of (err 3)) (mid_of a (length o - a) o)
     → put_mid a (length o - a) o ys ≡ take a o ++ frame_of (err 3) ++ drop (a + 9) o

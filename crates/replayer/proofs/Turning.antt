@@ -3,7 +3,6 @@ use mathlib.Core.Path.{◌≡◌, refl, sym, ap, ◌∙◌}
 use mathlib.Core.Bool.{Bool, true, false, not, ◌&&◌}
 use mathlib.Core.List.{List, [], ◌++◌, append-nil}
 use Prim.Native.Nat.{ℕ, ◌+◌, ◌-◌, ◌≤◌}
-use native.Mathlib.Nat.{sub-zero}
 use native.Mathlib.Omega.{arith}
 use lib.ListN.{length, take, drop, length-append, take-append-drop}
 use lib.Seq.{length-take-le, drop-drop}
@@ -46,22 +45,22 @@ module _ (s b o i : List ℕ) (p : Progress) (f : Fits i o p) where
   module _ (t e : ℕ) (six : 6 ≤ e) where
     pub answer_leaves : (h : Handled) (s' b' o' : List ℕ) (filled : ℕ)
         → Handles s p.clock t (take (p.taken + e - (p.taken + 6)) (drop (p.taken + 6) i)) b h s' b'
-        → filled ≡ p.filled + length (take (h.written - 0) b')
-        → o' ≡ take p.filled o ++ take (h.written - 0) b' ++ drop (p.filled + length (take (h.written - 0) b')) o
+        → filled ≡ p.filled + length (take h.written b')
+        → o' ≡ take p.filled o ++ take h.written b' ++ drop (p.filled + length (take h.written b')) o
         → Leaves (answered (replay_of s b o p) (record_at t e (drop p.taken i)) e) o
         (record { clock = h.clock; taken = p.taken + e; filled = filled; next = Write }) s' b' o'
     unfolding answered after reply_to answer record_at
     answer_leaves h s' b' o' filled g n u =
         let l = rw (frame_cut p.taken e i six) at g in
         let x = handled s p.clock t (field 6 (e - 6) (drop p.taken i)) b in
-        let q : take (h.written - 0) b' ≡ take x.written x.reply = rw (sub-zero, l.written_is, l.reply_is) in
+        let q : take h.written b' ≡ take x.written x.reply = rw (l.written_is, l.reply_is) in
         record {
           store_is = l.store_is;
           clock_is = l.clock_is;
           reply_is = l.reply_is;
           taken_is = refl;
           filled_is = n ∙ ap (λ (a : List ℕ). p.filled + length a) q ∙ sym (filled_long (take x.written x.reply));
-          output_is = behind (take x.written x.reply) (take (h.written - 0) b') o' q u;
+          output_is = behind (take x.written x.reply) (take h.written b') o' q u;
           next_is = refl;
         }
 

@@ -10,19 +10,13 @@ ghost use Rattle.journal.specs.Journal.{record_at};
 ghost use Rattle.replayer.specs.Advance.{is_write, answered, turn, replay_of, with_next, Fits, Leaves, Advances};
 
 use clock::Clock;
+use entry::Refusal;
 use frame::{MAX_FRAME, write_err};
 use journal::{Cut, cut_record};
 use node::handle;
-use wire::put_padded;
-
-// The refusal of a journal that ends inside a record or has a LEN out of range, and the length of
-// its ERR frame.
-const BAD_FRAME: u8 = 3;
-
-const ERR_BYTES: usize = 9;
 
 // What the caller is to do, once it has written the output.
-#[derive(Clone, Copy)]
+#[derive(Clone, Copy, PartialEq, Eq, Debug)]
 pub enum Next {
     // Read more input: no whole record is left.
     Read,
@@ -34,7 +28,7 @@ pub enum Next {
 
 // The next clock, how many bytes of the input were taken, how many of the output were filled, and
 // what is to be done.
-#[derive(Clone, Copy)]
+#[derive(Clone, Copy, PartialEq, Eq, Debug)]
 pub struct Progress {
     pub clock: Clock,
     pub taken: usize,
@@ -50,7 +44,7 @@ fn append(output: &mut [u8], filled: usize, reply: &[u8]) -> usize
         ≡ take filled output.old ++ reply.now ++ drop (filled + length reply.now) output.old }
 {
     let end = filled + reply.len();
-    put_padded(&mut output[filled..end], reply);
+    output[filled..end].copy_from_slice(reply);
     end
 }
 
@@ -59,15 +53,11 @@ fn goes_on(progress: Progress, room: usize) -> bool
     requires { progress.filled ≤ room }
     ensures { result ≡ (is_write progress.next && leb max_frame (room - progress.filled)) }
 {
-    let next = progress.next;
-    match next {
-        Next::Write => MAX_FRAME <= room - progress.filled,
-        Next::Read => false,
-        Next::Stop => false,
-    }
+    progress.next == Next::Write && MAX_FRAME <= room - progress.filled
 }
 
-// Answers the record of `size` bytes at the front of the input that is left.
+// Answers the record of `size` bytes at the front of the input that is left. Of the four slices
+// three are lent to be written: a struct of them would be taken apart here, so it is no plainer.
 fn answer(
     store: &mut [u8],
     input: &[u8],
@@ -84,47 +74,30 @@ fn answer(
         output.old result store.new reply.new output.new }
 {
     let from = progress.taken + 6;
-    let next = progress.taken + size;
-    let handled = handle(store, progress.clock, time, &input[from..next], reply);
-    let clock = handled.clock;
-    let n = handled.written;
-    let filled = append(output, progress.filled, &reply[0..n]);
+    let taken = progress.taken + size;
+    let handled = handle(store, progress.clock, time, &input[from..taken], reply);
+    let filled = append(output, progress.filled, &reply[..handled.written]);
     Progress {
-        clock,
-        taken: next,
+        clock: handled.clock,
+        taken,
         filled,
         next: Next::Write,
     }
 }
 
-// Stops with ERR 3.
+// Stops with ERR 3: a journal that ends inside a record or has a LEN out of range.
 fn stop_bad(output: &mut [u8], progress: Progress) -> Progress
     requires { progress.filled + max_frame ≤ length output.old }
     ensures told { result ≡ with_next (progress.filled + 9) Next.Stop progress }
     ensures left { output.new
         ≡ take progress.filled output.old ++ frame_of (err 3) ++ drop (progress.filled + 9) output.old }
 {
-    let clock = progress.clock;
-    let filled = progress.filled;
-    write_err(BAD_FRAME, &mut output[filled..]);
+    let number = Refusal::BadFrame.number();
+    let written = write_err(number, &mut output[progress.filled..]).unwrap_or(0);
     Progress {
-        clock,
-        taken: progress.taken,
-        filled: filled + ERR_BYTES,
+        filled: progress.filled + written,
         next: Next::Stop,
-    }
-}
-
-// The same progress, with something else to be done.
-fn with_next(progress: Progress, next: Next) -> Progress
-    ensures { result ≡ with_next progress.filled next progress }
-{
-    let clock = progress.clock;
-    Progress {
-        clock,
-        taken: progress.taken,
-        filled: progress.filled,
-        next,
+        ..progress
     }
 }
 
@@ -142,23 +115,22 @@ fn turn(
         (turn ended input.now (replay_of store.old reply.old output.old progress))
         output.old result store.new reply.new output.new }
 {
-    let taken = progress.taken;
-    let cut = cut_record(&input[taken..]);
-    match cut {
+    match cut_record(&input[progress.taken..]) {
         Cut::Record { time, end } => answer(store, input, reply, output, progress, time, end),
         Cut::Broken => stop_bad(output, progress),
-        Cut::Short => {
-            if ended {
-                return stop_bad(output, progress);
-            }
-            with_next(progress, Next::Read)
-        }
-        Cut::End => {
-            if ended {
-                return with_next(progress, Next::Stop);
-            }
-            with_next(progress, Next::Read)
-        }
+        Cut::Short if ended => stop_bad(output, progress),
+        Cut::End if ended => Progress {
+            next: Next::Stop,
+            ..progress
+        },
+        Cut::Short => Progress {
+            next: Next::Read,
+            ..progress
+        },
+        Cut::End => Progress {
+            next: Next::Read,
+            ..progress
+        },
     }
 }
 
@@ -183,6 +155,7 @@ pub fn advance(
         filled: 0,
         next: Next::Write,
     };
+    // a turn takes what there is of a record: it counts no index
     while goes_on(progress, room) {
         progress = turn(store, input, ended, reply, output, progress);
     }

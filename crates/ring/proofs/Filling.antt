@@ -2,15 +2,15 @@
 -- check by check.
 use mathlib.Core.Path.{◌≡◌, refl, sym, ap, ap₂, ◌∙◌}
 use mathlib.Core.Bool.{true, false, not, ◌||◌}
-use mathlib.Core.List.{List, [], ◌∷◌, ◌++◌, append_assoc}
-use Prim.Native.Nat.{ℕ, zero, suc, ◌+◌, ◌*◌, ◌≤◌, ◌<◌, ◌-◌}
+use mathlib.Core.List.{List, [], ◌∷◌, ◌++◌, append_assoc, append-nil}
+use Prim.Native.Nat.{ℕ, zero, suc, ◌+◌, ◌*◌, ◌≤◌, ◌<◌}
 use native.Mathlib.Nat.{add_comm, suc-mul, le_trans, mul-le-mul_left, mul-le-mul_right}
 use native.Mathlib.Numerals.{add-one}
 use native.Mathlib.Omega.{arith}
 use lib.Dec.{ltb}
 use lib.ListN.{length, get_or, set, take, drop, length-append, drop_of_length-le}
-use lib.Seq.{drop-cons, take_at, drop_at, length-take-le}
-use borrow.Rule.Slice.PartMut.{mid_of, put_mid}
+use lib.Seq.{drop-cons, take-suc-set, append_snoc, take_all, take_at, length-take-le}
+use borrow.Rule.Slice.PartMut.{put_mid}
 use borrow.Author.Tests.{lt-ltb, le-ltb, ltb-false, not-false}
 use Rattle.wire.proofs.Tests.{or-false}
 use Rattle.ring.specs.Answer.{Answer, gives, refuses, written}
@@ -19,7 +19,13 @@ use Rattle.ring.specs.Place.{place_of}
 use Rattle.ring.specs.Build.{node_places, places, ring_of, bad_arguments, build_answer, build_output}
 use Rattle.ring.proofs.Answers.{told}
 use Rattle.ring.proofs.Sorting.{length-sorted}
-use Rattle.ring.proofs.Merging.{next_written, all_written}
+
+-- ---- a list that is written from the front: the written part and what is to come
+next_written : (l rest : List ℕ) (k p : ℕ) → k < length l → take (k + 1) (set l k p) ++ rest ≡ take k l ++ p ∷ rest
+next_written l rest k p h = rw (add-one k, take-suc-set l k p h) (append_snoc (take k l) p rest)
+
+all_written : (l t : List ℕ) (k : ℕ) → length l ≤ k → take k l ++ [] ≡ t → l ≡ t
+all_written l t k h e = sym (append-nil (take k l) ∙ take_all k l h) ∙ e
 
 -- ---- how many places there are
 length-node_places : (n v s : ℕ) → length (node_places n v s) ≡ v
@@ -41,13 +47,10 @@ length_ring ids v s = length-sorted (places ids v s) ∙ length-places ids v s
 
 -- ---- a node's places, the last vnode first
 module _ (node s : ℕ) where
-  pub node_next : (out : List ℕ) (i v p : ℕ) → 0 < v → i < length out → p ≡ place_of node (v - 1) s
-      → take (i + 1) (set out i p) ++ node_places node (v - 1) s ≡ take i out ++ node_places node v s
+  pub node_next : (out : List ℕ) (i v w p : ℕ) → v ≡ suc w → i < length out → p ≡ place_of node w s
+      → take (i + 1) (set out i p) ++ node_places node w s ≡ take i out ++ node_places node v s
   unfolding node_places
-  node_next out i v p h k q =
-      let z : v ≡ suc (v - 1) = omega arith in
-      next_written out (node_places node (v - 1) s) i p k
-      ∙ rw q (ap (λ (m : ℕ). take i out ++ node_places node m s) (sym z))
+  node_next out i v w p z k q = next_written out (node_places node w s) i p k ∙ rw (q, z)
 
   pub node_done : (out t : List ℕ) (i v : ℕ) → v ≡ 0 → length out ≤ i → take i out ++ node_places node v s ≡ t → out ≡ t
   unfolding node_places
@@ -85,16 +88,11 @@ module _ (v s : ℕ) (ids : List ℕ) (i : ℕ) where
       all_written out t at (omega arith) (rw d at e)
 
 -- ---- sorted at the front of the slice; n is the width of the part that is lent
-pub fill_done : (ids : List ℕ) (v s n : ℕ) (ring ws ss : List ℕ) → n ≡ length ids * v → ws ≡ places ids v s
-    → ss ≡ sorted (mid_of 0 n (put_mid 0 n ring ws))
-    → put_mid 0 n (put_mid 0 n ring ws) ss ≡ ring_of ids v s ++ drop (length (ring_of ids v s)) ring
+pub fill_done : (ids : List ℕ) (v s n : ℕ) (ring ws ss : List ℕ) → n ≡ length ids * v → ws ≡ places ids v s → ss ≡ sorted ws
+    → ss ++ drop n ring ≡ ring_of ids v s ++ drop (length (ring_of ids v s)) ring
 unfolding ring_of
 fill_done ids v s n ring ws ss q w e =
-    let m : length ws ≡ n = ap length w ∙ length-places ids v s ∙ sym q in
-    let k : n ≡ length (ring_of ids v s) = q ∙ sym (length_ring ids v s) in
-    ap₂ ◌++◌
-    (e ∙ ap sorted (take_at ws (drop n ring) n m ∙ w))
-    (drop_at ws (drop n ring) n m ∙ ap (λ (i : ℕ). drop i ring) k)
+    ap₂ ◌++◌ (e ∙ ap sorted w) (ap (λ (i : ℕ). drop i ring) (q ∙ sym (length_ring ids v s)))
 
 -- ---- the answer, check by check
 -- arguments that pass the checks of 17

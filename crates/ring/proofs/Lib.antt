@@ -3,7 +3,6 @@ pub mod Filter
 pub mod Elements
 pub mod Counting
 pub mod Sorting
-pub mod Merging
 pub mod Scan
 pub mod Filling
 pub mod BuiltRing

@@ -1,13 +1,7 @@
 -- What the private functions promise.
-use Rattle.std.specs.Prelude.{Bool, false, cond, ◌≡◌, List, [], ◌∷◌, ◌++◌, map, ℕ, ◌≤◌, leb, length, get_or, take, drop}
+use Rattle.std.specs.Prelude.{Bool, false, ◌≡◌, List, ◌++◌, map, ℕ, ◌≤◌, length, get_or, take, drop}
 use Rattle.ring.specs.Lists.{filter, firsts}
 use Rattle.ring.specs.Place.{node}
-
--- two lists merged: the lesser of the two first elements goes first
-unfoldable pub merged : List ℕ → List ℕ → List ℕ
-merged [] r = r
-merged (p ∷ l) [] = p ∷ l
-merged (p ∷ l) (q ∷ r) = cond (leb p q) (p ∷ merged l (q ∷ r)) (q ∷ merged (p ∷ l) r)
 
 -- the ring from the place at k on and round
 unfoldable pub turned : ℕ → List ℕ → List ℕ

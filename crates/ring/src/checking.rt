@@ -12,12 +12,10 @@ const VNODE_LIMIT: u64 = 64;
 pub(crate) fn is_ascending(ring: &[u64]) -> bool
     ensures { result ≡ ascending ring.now }
 {
-    let mut i = 0;
-    while i + 1 < ring.len() {
-        if ring[i + 1] <= ring[i] {
+    for i in 1..ring.len() {
+        if ring[i] <= ring[i - 1] {
             return false;
         }
-        i += 1;
     }
     true
 }
@@ -26,16 +24,6 @@ pub(crate) fn is_ascending(ring: &[u64]) -> bool
 pub(crate) fn all_in_range(ring: &[u64]) -> bool
     ensures { result ≡ in_range ring.now }
 {
-    let mut i = 0;
-    while i < ring.len() {
-        let p = ring[i];
-        if PLACE_LIMIT <= p {
-            return false;
-        }
-        if VNODE_LIMIT <= p % 256 {
-            return false;
-        }
-        i += 1;
-    }
-    true
+    ring.iter()
+        .all(|p| *p < PLACE_LIMIT && *p % 256 < VNODE_LIMIT)
 }

@@ -3,11 +3,10 @@
 
 mod building;
 mod checking;
-mod merge_sort;
 mod walking;
 
 ghost use Rattle.std.specs.Prelude.{◌≡◌};
-ghost use Rattle.ring.specs.Answer.{position_meaning, built_meaning, ownership_meaning};
+ghost use Rattle.ring.specs.Answer.{meaning};
 ghost use Rattle.ring.specs.Place.{token_of, position_answer};
 ghost use Rattle.ring.specs.Build.{build_answer, build_output};
 ghost use Rattle.ring.specs.Sound.{sound_ring};
@@ -28,79 +27,55 @@ pub const MAX_PLACES: usize = 640;
 // The most owners of a position.
 pub const MAX_OWNERS: u8 = 3;
 
-// A key's position on the ring.
-#[derive(Clone, Copy)]
-pub enum KeyPosition {
-    At(u32),
-    Refused(Refusal),
-}
-
-// How many places were built.
-#[derive(Clone, Copy)]
-pub enum Built {
-    Places(usize),
-    Refused(Refusal),
-}
-
-// How many owners were found.
-#[derive(Clone, Copy)]
-pub enum Ownership {
-    Found(u8),
-    Refused(Refusal),
-}
-
 // The token of a node's vnode.
+#[tactic(auto, unfolding(crate::specs::Place::token_of))]
 pub fn token(node: u8, vnode: u8, salt: u32) -> u32
     ensures { result ≡ token_of node vnode salt }
 {
     let pair = [node, vnode];
     let e = checksum::crc32c(&pair);
-    let mixed = checksum::fmix32(256 * (node as u32) + (vnode as u32));
+    let mixed = checksum::fmix32(256 * u32::from(node) + u32::from(vnode));
     checksum::fmix32(e ^ mixed ^ salt)
 }
 
-// The position of a key.
-pub fn key_position(key: &[u8], salt: u32) -> KeyPosition
-    ensures { position_meaning result ≡ position_answer key.now salt }
+// A key's position on the ring.
+pub fn key_position(key: &[u8], salt: u32) -> Result<u32, Refusal>
+    ensures { meaning result ≡ position_answer key.now salt }
 {
     if !is_acceptable_key(key) {
-        return KeyPosition::Refused(Refusal::BadKey);
+        return Err(Refusal::BadKey);
     }
-    KeyPosition::At(checksum::fmix32(checksum::crc32c(key) ^ salt))
+    Ok(checksum::fmix32(checksum::crc32c(key) ^ salt))
 }
 
-// Builds the ring of the ids, with `vnodes` places each, at the front of `ring`.
-pub fn build(ids: &[u8], vnodes: u8, salt: u32, ring: &mut [u64]) -> Built
-    ensures answer { built_meaning result ≡ build_answer ids.now vnodes ring.old }
+// Builds the ring of the ids, with `vnodes` places each, at the front of `ring`. How many places
+// were built.
+pub fn build(ids: &[u8], vnodes: u8, salt: u32, ring: &mut [u64]) -> Result<usize, Refusal>
+    ensures answer { meaning result ≡ build_answer ids.now vnodes ring.old }
     ensures output { ring.new ≡ build_output ids.now vnodes salt ring.old }
 {
     if bad_arguments(ids, vnodes) {
-        return Built::Refused(Refusal::BadArgument);
+        return Err(Refusal::BadArgument);
     }
     let places = ids.len() * (vnodes as usize);
     if ring.len() < places {
-        return Built::Refused(Refusal::NoRoom);
+        return Err(Refusal::NoRoom);
     }
     fill(ids, vnodes, salt, ring);
-    Built::Places(places)
+    Ok(places)
 }
 
 // Whether `ring` is sound: at most 640 places, strictly ascending, each below 2^48, vnode
 // below 64.
+#[tactic(auto, unfolding(crate::specs::Sound::sound_ring))]
 pub fn is_sound(ring: &[u64]) -> bool
     ensures { result ≡ sound_ring ring.now }
 {
-    if MAX_PLACES < ring.len() {
-        return false;
-    }
-    if !is_ascending(ring) {
-        return false;
-    }
-    all_in_range(ring)
+    ring.len() <= MAX_PLACES && is_ascending(ring) && all_in_range(ring)
 }
 
 // Finds the owners of a position: the first `count` admitted nodes that the walk from it meets,
-// written to the front of `out`.
+// written to the front of `out`. How many were found.
 pub fn owners(
     ring: &[u64],
     peers: PeerTable,
@@ -108,26 +83,26 @@ pub fn owners(
     admission: Admission,
     count: u8,
     out: &mut [u8],
-) -> Ownership
-    ensures answer { ownership_meaning result ≡ owners_answer ring.now peers admission count out.old }
+) -> Result<u8, Refusal>
+    ensures answer { meaning result ≡ owners_answer ring.now peers admission count out.old }
     ensures output { out.new ≡ owners_output ring.now peers position admission count out.old }
 {
     if bad_request(peers, count) {
-        return Ownership::Refused(Refusal::BadArgument);
+        return Err(Refusal::BadArgument);
     }
     if !is_sound(ring) {
-        return Ownership::Refused(Refusal::BadRing);
+        return Err(Refusal::BadRing);
     }
     let wanted = count as usize;
     let flags = peers.admitted(admission);
     let taken = walk(ring, start(ring, position), flags, wanted);
     let met = taken.count;
     if met < wanted {
-        return Ownership::Refused(Refusal::TooFew);
+        return Err(Refusal::TooFew);
     }
     if out.len() < wanted {
-        return Ownership::Refused(Refusal::NoRoom);
+        return Err(Refusal::NoRoom);
     }
     put(out, taken);
-    Ownership::Found(count)
+    Ok(count)
 }

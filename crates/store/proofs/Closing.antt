@@ -3,14 +3,19 @@ use Prim.Native.Nat.{ℕ, suc, ◌+◌, ◌-◌, ◌*◌, ◌≤◌, ◌<◌}
 use native.Mathlib.Omega.{arith}
 use native.Mathlib.Numerals.{add-one}
 use mathlib.Core.Path.{◌≡◌, refl, sym, ap, ap₂, ◌∙◌}
-use mathlib.Core.List.{List, [], ◌++◌, append_assoc, append-nil}
-use lib.ListN.{length, take, drop, get_or, set, length-append, length-drop, drop_of_length-le}
-use lib.Seq.{take_at, drop_at, drop-drop, length-take-le, take-add, take_all, get_or-append-add, get_or-drop}
+use mathlib.Core.List.{List, ◌++◌, append_assoc, append-nil}
+use lib.ListN.{length, take, drop, length-append, length-drop, drop_of_length-le, replicate}
+use lib.Seq.{drop_at, drop-drop, length-take-le, take-add}
 use borrow.Rule.Slice.PartMut.{mid_of, put_mid}
+use Rattle.std.specs.List.{copy_within}
+use Rattle.std.proofs.Math.Seq.{paste}
+use Rattle.std.proofs.lemmas.List.{length-replicate}
+use Rattle.std.proofs.lemmas.List.Edits.{length-paste, paste-paste, paste_all}
+use Rattle.std.proofs.lemmas.Slice.{put_mid-paste}
 use Rattle.wire.specs.Number.{be}
 use Rattle.wire.specs.Fill.{zeros, field}
 use Rattle.wire.proofs.Number.{length-be}
-use Rattle.wire.proofs.Fill.{zeros-add, be-zeros, copy_step}
+use Rattle.wire.proofs.Fill.{zeros-add}
 use Rattle.entry.specs.Entry.{Entry}
 use Rattle.image.specs.Layout.{used_at, width_at, line_at, header_fill_at, header_width, slot_width, slot_start}
 use Rattle.image.specs.Image.{slots, header, image, slots_of, used_of, line_of, entries_of}
@@ -21,33 +26,25 @@ use Rattle.store.specs.Purge.{remove_at}
 use Rattle.store.proofs.Splices.{splice_part, splice_mid, drop-splice, image_of}
 use Rattle.store.proofs.Splices.{length_before, length_from, length_front, length_moved, split_at, field_at, counted}
 
--- ---- bytes moved down by w, from the first: at i, those before i have been
-module _ (s₀ : List ℕ) (w : ℕ) where
-  pub down_step : (s : List ℕ) (i : ℕ) → i + w < length s₀ → s ≡ take i (drop w s₀) ++ drop i s₀
-      → set s i (get_or s (i + w) 0) ≡ take (i + 1) (drop w s₀) ++ drop (i + 1) s₀
-  down_step s i h e =
-      let p : List ℕ = drop w s₀ in
-      let lp : length p ≡ length s₀ - w = length-drop w s₀ in
-      let l : length (take i p) ≡ i = length-take-le i p (omega arith) in
-      let c : i + w ≡ w + i = omega arith in
-      let g : get_or (take i p ++ drop i s₀) (i + w) 0 ≡ get_or p i 0 =
-      ap (λ (j : ℕ). get_or (take i p ++ drop i s₀) (j + w) 0) (sym l) ∙ get_or-append-add (take i p) (drop i s₀) w 0 ∙ get_or-drop i s₀ w 0
-      ∙ ap (λ (j : ℕ). get_or s₀ j 0) c ∙ sym (get_or-drop w s₀ i 0) in
-      rw (e, g) (copy_step p s₀ i (omega arith) (omega arith))
-
-  -- and zeros in the last w
-  pub down_done : (s ys : List ℕ) (i k : ℕ) → i + w ≡ length s₀ → k ≡ w → s ≡ take i (drop w s₀) ++ drop i s₀ → ys ≡ be (length (mid_of i k s)) 0
-      → put_mid i k s ys ≡ drop w s₀ ++ zeros w
-  down_done s ys i k n ke e ye =
-      let p : List ℕ = drop w s₀ in
-      let lp : length p ≡ i = length-drop w s₀ ∙ omega arith in
-      let is : s ≡ p ++ drop i s₀ = e ∙ ap (λ (l : List ℕ). l ++ drop i s₀) (take_all i p (omega arith)) in
-      let d : drop i s ≡ drop i s₀ = ap (drop i) is ∙ drop_at p (drop i s₀) i lp in
-      let ld : length (drop i s) ≡ w = ap length d ∙ length-drop i s₀ ∙ omega arith in
-      let y : ys ≡ zeros w = ye ∙ ap (λ (m : ℕ). be m 0) (length-take-le k (drop i s) (omega arith) ∙ ke) ∙ be-zeros w in
-      let t : take i s ≡ p = ap (take i) is ∙ take_at p (drop i s₀) i lp in
-      let r : drop k (drop i s) ≡ [] = drop_of_length-le (drop i s) {i = k} (omega arith) in
-      rw (t, y, r) (ap (λ (l : List ℕ). p ++ l) (append-nil (zeros w)))
+-- ---- bytes moved down by w, and zeros in the last w
+pub down_done : (w : ℕ) (s t ys : List ℕ) → w ≤ length s → let i = length s - w in t ≡ copy_within s w (length s) 0
+    → ys ≡ replicate (length (mid_of i (length s - i) t)) 0 → put_mid i (length s - i) t ys ≡ drop w s ++ zeros w
+unfolding zeros
+down_done w s t ys h te ye =
+    let i = length s - w in
+    let p : List ℕ = drop w s in
+    let lp : i ≡ length p = omega (arith, length-drop w s) in
+    let here : i ≡ 0 + i = omega arith in
+    let k : length s - i ≡ w = omega arith in
+    let z : List ℕ = replicate w 0 in
+    let lz : w ≡ length z = sym (length-replicate w 0) in
+    let lt : length t ≡ length s = ap length te ∙ length-paste s 0 p i (omega arith) (omega arith) in
+    let lm : length (mid_of i (length s - i) t) ≡ w = length-take-le (length s - i) (drop i t) (omega (arith, length-drop i t)) ∙ k in
+    let all : i + w ≡ length (p ++ z) = omega (arith, length-append p z) in
+    put_mid-paste i (length s - i) t ys z w (ye ∙ ap (λ (m : ℕ). replicate m 0) lm) (sym k) lz
+    ∙ ap₂ (λ (l : List ℕ) (m : ℕ). paste l m z w) te here ∙ paste-paste s 0 p z i w lp lz (omega arith)
+    ∙ paste_all s 0 (p ++ z) (i + w) all
+    ∙ ap (λ (l : List ℕ). (p ++ z) ++ l) (drop_of_length-le s {i = 0 + (i + w)} (omega arith)) ∙ append-nil (p ++ z)
 
 -- the end of a part
 drop-take : (w m : ℕ) (l : List ℕ) → w ≤ length l → drop w (take (w + m) l) ≡ take m (drop w l)

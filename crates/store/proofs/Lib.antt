@@ -1,7 +1,6 @@
 pub mod HeldLaws
 pub mod Members
 pub mod Seeking
-pub mod Shifts
 pub mod Splices
 pub mod Placing
 pub mod OnSound

@@ -11,7 +11,6 @@ use lib.Dec.{ltb}
 use borrow.Author.Tests.{le-leb, lt-leb, ltb-true, ltb-false}
 use Rattle.wire.specs.Fill.{field}
 use Rattle.wire.proofs.Tests.{test}
-use Rattle.entry.specs.declared.Stamp.{Stamp}
 use Rattle.entry.specs.Entry.{Entry}
 use Rattle.wire.specs.Number.{num}
 use Rattle.image.specs.Layout.{klen_at, vlen_at, key_at, key_width, value_at, value_width, slot_start, value_start}
@@ -52,11 +51,10 @@ module _ (s : List ℕ) (i : ℕ) where
       unfolding entry_answer
       list_slot = rw (ok, lt-leb (used_of s) i l)
 
-      pub list_entry : (key value : List ℕ) (flag : ℕ) (stamp : Stamp) → key ≡ key_in (slot_at i s) → value ≡ value_in (slot_at i s)
-          → flag ≡ flag_in (slot_at i s) → stamp ≡ stamp_in (slot_at i s)
-          → entry (slot_start i + key_at) (length key) (value_start i) (length value) flag stamp ≡ entry_answer s i
-      unfolding slot_entry listing_for
-      list_entry key value flag stamp k v f t = rw (k, v, f, t) (sym list_slot)
+      pub list_entry : (e : Entry) → e ≡ slot_entry (slot_at i s)
+          → entry (slot_start i + key_at) (length e.key) (value_start i) (length e.value) e.flag e.stamp ≡ entry_answer s i
+      unfolding listing_for
+      list_entry e h = ap (listing_for i) h ∙ sym list_slot
 
 -- ---- an entry that is listed
 part_small : (n a w : ℕ) (s : List ℕ) → length (take n (field a w s)) ≤ w

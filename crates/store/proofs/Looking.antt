@@ -8,8 +8,6 @@ use Prim.Native.Nat.{ℕ, zero, suc, ◌+◌, ◌≤◌, ◌<◌}
 use native.Mathlib.Omega.{arith}
 use lib.ListN.{length, take, drop}
 use lib.Dec.{eqb}
-use types.Run.{OneOf}
-use denote.Enum.Declared.{tag_of}
 use Rattle.wire.specs.Number.{num}
 use Rattle.wire.specs.Fill.{field}
 use Rattle.wire.specs.Order.{same_bytes}
@@ -24,11 +22,13 @@ use Rattle.image.specs.Slot.{slot_at}
 use Rattle.wire.proofs.Compared.{distinct}
 use Rattle.image.proofs.ImageLaws.{entry_at, used_is, sound_is, sound-length}
 use Rattle.store.specs.Held.{find, index_of}
-use Rattle.store.specs.declared.Looked.{Looked}
-use Rattle.store.specs.declared.Looked.TheVariants as looked
+use Rattle.std.specs.Prelude.{Result, Ok, Err}
+use Rattle.wire.specs.declared.Span.{Span}
+use Rattle.entry.specs.declared.Refusal.{Refusal}
+use Rattle.store.specs.declared.Finding.{Finding as Found}
+use Rattle.store.specs.declared.Finding.TheVariants as found
 use Rattle.store.specs.Lookup.{value, deleted, never, refused, finding_of, finding_for, value_for, lookup_answer, value_part}
 use Rattle.store.specs.Meaning.{ValueStands}
-use Rattle.store.specs.contracts.Looked.{the_type}
 use Rattle.store.proofs.HeldLaws.{find_some}
 use Rattle.store.proofs.OnSound.{fits_held}
 
@@ -134,11 +134,9 @@ no_value s k h = elim (test (sound s)) [
   | inr p ↦ rw p
 ]
 
--- a lookup's answer that is not the first variant
-pub not_found_lem : (s k : List ℕ) (l : Looked) → finding_of l ≡ lookup_answer s k → OneOf (1 ∷ 2 ∷ 3 ∷ []) (tag_of the_type l) → [] ≡ value_part s k
-not_found_lem s k (looked.Value at len) t (inl h) = absurd (omega arith)
-not_found_lem s k (looked.Value at len) t (inr (inl h)) = absurd (omega arith)
-not_found_lem s k (looked.Value at len) t (inr (inr h)) = absurd (omega arith)
-not_found_lem s k looked.Deleted t h = no_value s k (λ at len e. distinct deleted (value at len) (λ q. cc) (t ∙ e))
-not_found_lem s k looked.Never t h = no_value s k (λ at len e. distinct never (value at len) (λ q. cc) (t ∙ e))
-not_found_lem s k (looked.Refused r) t h = no_value s k (λ at len e. distinct (refused (number r)) (value at len) (λ q. cc) (t ∙ e))
+-- a lookup's answer that is no value's place
+pub not_found : (s k : List ℕ) (l : Result Found Refusal) → finding_of l ≡ lookup_answer s k → ((p : Span) → l ≡ Ok (found.Value p) → ⊥) → [] ≡ value_part s k
+not_found s k (Ok (found.Value p)) t h = absurd (h p refl)
+not_found s k (Ok found.Deleted) t h = no_value s k (λ at len e. distinct deleted (value at len) (λ q. cc) (t ∙ e))
+not_found s k (Ok found.Never) t h = no_value s k (λ at len e. distinct never (value at len) (λ q. cc) (t ∙ e))
+not_found s k (Err r) t h = no_value s k (λ at len e. distinct (refused (number r)) (value at len) (λ q. cc) (t ∙ e))

@@ -15,14 +15,15 @@ use Rattle.store.proofs.Seeking.{seen-find}
 use Rattle.store.proofs.OnSound.{ordered}
 use Rattle.store.proofs.Ways.{not_seen, is_seen}
 
-module _ (s k : List ℕ) (at : ℕ) (held : Bool) (p : Placed k (entries_of s) at held) (t : Stamp) where
-  pub not_held : held ≡ false → false ≡ overtaken_unchecked s k t
+module _ (s k : List ℕ) (at : ℕ) (t : Stamp) where
+  pub not_held : Placed k (entries_of s) at false → false ≡ overtaken_unchecked s k t
   unfolding overtaken_unchecked overtaken_by
-  not_held f = rw (not_seen s k at held p f)
+  not_held p = rw (not_seen s k at p)
 
-  pub held_stamp : held ≡ true → (h : Stamp) (r : Bool) → h ≡ stamp_in (slot_at at s) → r ≡ stamp_below h t → not r ≡ overtaken_unchecked s k t
+  pub held_stamp : Placed k (entries_of s) at true → (h : Stamp) (r : Bool) → h ≡ stamp_in (slot_at at s) → r ≡ stamp_below h t
+      → not r ≡ overtaken_unchecked s k t
   unfolding overtaken_unchecked overtaken_by slot_entry
-  held_stamp f h r e q = rw (is_seen s k at held p f, q, e)
+  held_stamp p h r e q = rw (is_seen s k at p, q, e)
 
 pub overtaken_on_sound : OvertakenOnSound
 unfolding overtaken_unchecked overtaken

@@ -6,6 +6,7 @@ use mathlib.Core.Path.{◌≡◌, refl}
 use mathlib.Core.Logic.{◌⊎◌, inl, inr}
 use mathlib.Core.List.{List}
 use mathlib.Core.Option.{Option, none, some}
+use Rattle.std.specs.Prelude.{Result, Ok, Err}
 use lib.ListN.{length}
 use lib.Dec.{ltb, leb, eqb}
 use borrow.Author.Tests.{leb-true}
@@ -21,29 +22,29 @@ use Rattle.wire.proofs.Compared.{distinct}
 use Rattle.image.proofs.SlotLaws.{length_slot}
 use Rattle.image.proofs.ImageLaws.{used_is}
 use Rattle.store.specs.declared.Placement.{Placement}
-use Rattle.store.specs.declared.Placement.TheVariants.{Insert, Replace, Kept, Refused}
+use Rattle.store.specs.declared.Placement.TheVariants.{Insert, Replace, Kept}
 use Rattle.store.specs.Answer.{stored, replaced, kept, refused}
 use Rattle.store.specs.Unchecked.{seek, seen, placement_for, placement, told_of, written_at, after_placed, offer_unchecked, after_offer_unchecked}
 use Rattle.store.specs.Meaning.{StoredIsThere, UnstoredUnchanged}
 use Rattle.store.proofs.Seeking.{seek_within}
 use Rattle.store.proofs.Splices.{slot_replaced, slot_inserted}
 
-abbrev pub Fitting : List ℕ → Placement → Type 0
-Fitting s (Insert i) = (i ≤ used_of s) × (slot_start (used_of s + 1) ≤ length s)
-Fitting s (Replace i) = slot_start (i + 1) ≤ length s
-Fitting s Kept = Unit {0}
-Fitting s (Refused r) = Unit {0}
+abbrev pub Fitting : List ℕ → Result Placement Refusal → Type 0
+Fitting s (Ok (Insert i)) = (i ≤ used_of s) × (slot_start (used_of s + 1) ≤ length s)
+Fitting s (Ok (Replace i)) = slot_start (i + 1) ≤ length s
+Fitting s (Ok Kept) = Unit {0}
+Fitting s (Err r) = Unit {0}
 
 -- the entry's slot holds its bytes
-abbrev There : List ℕ → Entry → Placement → Type 0
+abbrev There : List ℕ → Entry → Result Placement Refusal → Type 0
 There s e p = (told_of p ≡ stored) ⊎ (told_of p ≡ replaced) → slot_at (seek e.key (entries_of s)) (written_at p (slot_bytes e) s) ≡ slot_bytes e
 
 -- where nothing is written, neither is told
-kept_there : (s : List ℕ) (e : Entry) → There s e Kept
+kept_there : (s : List ℕ) (e : Entry) → There s e (Ok Kept)
 kept_there s e (inl q) = distinct kept stored (λ r. cc) q
 kept_there s e (inr q) = distinct kept replaced (λ r. cc) q
 
-refused_there : (s : List ℕ) (e : Entry) (r : Refusal) → There s e (Refused r)
+refused_there : (s : List ℕ) (e : Entry) (r : Refusal) → There s e (Err r)
 refused_there s e r (inl q) = distinct (refused (number r)) stored (λ x. cc) q
 refused_there s e r (inr q) = distinct (refused (number r)) replaced (λ x. cc) q
 
@@ -92,11 +93,11 @@ stored_is_there s e h = elim (test (eqb (refusal_of e) 0)) [
 ]
 
 -- an answer that is neither leaves the bytes
-left_alone : (p : Placement) (w s : List ℕ) → (told_of p ≡ stored → ⊥) → (told_of p ≡ replaced → ⊥) → written_at p w s ≡ s
-left_alone (Insert j) w s f g = absurd (f refl)
-left_alone (Replace j) w s f g = absurd (g refl)
-left_alone Kept w s f g = refl
-left_alone (Refused r) w s f g = refl
+left_alone : (p : Result Placement Refusal) (w s : List ℕ) → (told_of p ≡ stored → ⊥) → (told_of p ≡ replaced → ⊥) → written_at p w s ≡ s
+left_alone (Ok (Insert j)) w s f g = absurd (f refl)
+left_alone (Ok (Replace j)) w s f g = absurd (g refl)
+left_alone (Ok Kept) w s f g = refl
+left_alone (Err r) w s f g = refl
 
 pub unstored_unchanged : UnstoredUnchanged
 unfolding offer_unchecked after_offer_unchecked after_placed

@@ -3,7 +3,7 @@ use Prim.Native.Nat.{ℕ, suc, ◌^◌, ◌≤◌, ◌<◌}
 use native.Mathlib.Omega.{arith}
 use mathlib.Core.Path.{◌≡◌, refl, sym, ap, ap₂, ◌∙◌}
 use mathlib.Core.Logic.{inl, inr}
-use mathlib.Core.Bool.{true, false, ◌&&◌}
+use mathlib.Core.Bool.{Bool, true, false, ◌&&◌}
 use mathlib.Core.List.{List}
 use mathlib.Core.Option.{none}
 use lib.ListN.{length, drop, length-drop}
@@ -32,27 +32,34 @@ use Rattle.store.proofs.Closing.{lined}
 use Rattle.store.proofs.Purging.{mem-remaining, remaining-mem, remaining-ascending, remaining-length, remaining_again, removed_again}
 
 -- ---- each way through
-module _ (s : List ℕ) (line : ℕ) where
-  pub purge_5 : sound s ≡ false → (refused 5 ≡ purge_answer s line) × (s ≡ after_purge s line)
+module _ (s : List ℕ) (line : ℕ) (b : Bool) (se : b ≡ sound s) where
+  pub purge_5 : b ≡ false → (refused 5 ≡ purge_answer s line) × (s ≡ after_purge s line)
   unfolding purge_answer after_purge is_refused
-  purge_5 h = (sym (rw h), sym (rw h))
+  purge_5 f = let h = sym se ∙ f in (sym (rw h), sym (rw h))
 
-  module _ (h : sound s ≡ true) where
+  module _ (t : b ≡ true) where
+    h : sound s ≡ true
+    h = sym se ∙ t
+
+    -- the line's bytes are there
+    pub line_within : (u : List ℕ) → length u ≡ length s → header_fill_at ≤ length u
+    line_within u e = omega (arith, sound-length s (sound_is s h), (sound_is s h).some)
+
     pub purge_9 : 2 ^ 48 ≤ line → (refused 9 ≡ purge_answer s line) × (s ≡ after_purge s line)
     unfolding purge_answer after_purge is_refused
     purge_9 le = let q = le-leb (2 ^ 48) line le in (sym (rw (h, q)), sym (rw (h, q)))
 
-    module _ (time : line < 2 ^ 48) where
+    module _ (time : line < 2 ^ 48) (held : ℕ) (le : held ≡ line_of s) where
       in_time : bad_time line ≡ false
       in_time = lt-leb (2 ^ 48) line time
 
-      pub purge_33 : line < line_of s → (refused 33 ≡ purge_answer s line) × (s ≡ after_purge s line)
+      pub purge_33 : line < held → (refused 33 ≡ purge_answer s line) × (s ≡ after_purge s line)
       unfolding purge_answer after_purge is_refused
-      purge_33 lt = let q = lt-ltb line (line_of s) lt in (sym (rw (h, in_time, q)), sym (rw (h, in_time, q)))
+      purge_33 lt = let q = lt-ltb line (line_of s) (omega arith) in (sym (rw (h, in_time, q)), sym (rw (h, in_time, q)))
 
-      module _ (le : line_of s ≤ line) where
+      module _ (higher : held ≤ line) where
         not_lower : ltb line (line_of s) ≡ false
-        not_lower = le-ltb line (line_of s) le
+        not_lower = le-ltb line (line_of s) (omega arith)
 
         -- the line is written behind the entries that are left
         pub purge_done : (n : ℕ) → n ≡ removed line (entries_of s) → (t : List ℕ) → t ≡ image (slots_of s) (line_of s) (remaining line (entries_of s))

@@ -247,8 +247,3 @@ module _ {line : ℕ} {s t : List ℕ} {n i : ℕ} (k : Clearing line s t n i) w
     clear_stays c =
         let r = slot_stays line s h (i - 1) in_use t bytes_then c in
         record { bytes = r.0; told = told-then ∙ sym r.1; within = omega (arith, k.within); long = k.long }
-
-  pub clear_end : i ≡ 0 → (n ≡ removed line (entries_of s)) × (t ≡ image (slots_of s) (line_of s) (remaining line (entries_of s)))
-  clear_end z =
-      let es = entries_of s in
-      (k.told ∙ ap (λ (m : ℕ). removed line (drop m es)) z, k.bytes ∙ ap (λ (m : ℕ). image (slots_of s) (line_of s) (clearing line m es)) z)

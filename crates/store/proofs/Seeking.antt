@@ -14,12 +14,15 @@ use mathlib.Core.Option.{none, some, none-ne-some, some-injective}
 use lib.ListN.{length, take, drop, drop_of_length-le}
 use lib.Dec.{ltb}
 use Rattle.wire.specs.Order.{same_bytes, comparison}
-use Rattle.wire.specs.declared.Comparison.{Comparison}
-use Rattle.wire.specs.declared.Comparison.TheVariants as order
+use Rattle.std.specs.declared.cmp.Ordering.{Ordering}
+use Rattle.std.specs.declared.cmp.Ordering.TheVariants as order
 use Rattle.wire.proofs.Tests.{test}
 use Rattle.entry.specs.Order.{key_below}
 use Rattle.entry.specs.Entry.{Entry, beats}
 use Rattle.wire.proofs.Compared.{came_below, came_same, came_above}
+use Rattle.image.specs.Image.{key_in, slot_entry, used_of, entries_of}
+use Rattle.image.specs.Slot.{slot_at}
+use Rattle.image.proofs.ImageLaws.{entry_at}
 use Rattle.store.specs.Held.{◌∈◌, put, put_all, find, is_held, below_line, index_of}
 use Rattle.store.specs.Merge.{taken, passed_over}
 use Rattle.store.specs.Unchecked.{seek, seen, Placed, count_new, count_passed}
@@ -30,34 +33,44 @@ pub record Seeking (k : List ℕ) (es : List Entry) (i : ℕ) : Type 0 where
   pub place : i + seek k (drop i es) ≡ seek k es
   pub known : seen k (drop i es) ≡ seen k es
 
-pub seeking_none : (k : List ℕ) (es : List Entry) → Seeking k es 0
-seeking_none k es = record { place = omega arith; known = refl }
+pub seek_end : (k : List ℕ) (es : List Entry) (i : ℕ) → Seeking k es i → i < 65536 → length es ≤ i → Placed k es i false
+unfolding seek seen is_held
+seek_end k es i s small h =
+    let e = drop_of_length-le es h in
+    record { place = sym (omega (arith, rw e at s.place)); known = ap is_held (sym (ap (seen k) e) ∙ s.known); small = small }
 
-module _ (k : List ℕ) (es : List Entry) (i : ℕ) (s : Seeking k es i) (small : i < 65536) where
-  pub seek_end : length es ≤ i → Placed k es i false
+-- slot i's key k' compared with the key
+module _ (k s : List ℕ) (i : ℕ) (sought : Seeking k (entries_of s) i) (used : i < used_of s) (small : i < 65536)
+    (k' t : List ℕ) (ke : k' ≡ key_in t) (te : t ≡ slot_at i s) (o : Ordering) (oe : o ≡ comparison k k') where
+  abbrev here : Entry
+  here = slot_entry (slot_at i s)
+
+  split : drop i (entries_of s) ≡ here ∷ drop (suc i) (entries_of s)
+  split = entry_at i s used
+
+  compared : o ≡ comparison k here.key
+  unfolding slot_entry
+  compared = oe ∙ ap (comparison k) (ke ∙ ap key_in te)
+
+  pub seek_below : o ≡ order.Less → Placed k (entries_of s) i false
   unfolding seek seen is_held
-  seek_end h =
-      let e = drop_of_length-le es h in
-      record { place = sym (omega (arith, rw e at s.place)); known = ap is_held (sym (ap (seen k) e) ∙ s.known); small = small }
+  seek_below b =
+      let p = came_below k here.key (sym compared ∙ b) in
+      record { place = sym (omega (arith, rw (split, p) at sought.place)); known = ap is_held (rw (split, p) at sought.known); small = small }
 
-  module _ (h : Entry) (split : drop i es ≡ h ∷ drop (suc i) es) (o : Comparison) (oe : o ≡ comparison k h.key) where
-    pub seek_below : o ≡ order.Below → Placed k es i false
-    unfolding seek seen is_held
-    seek_below b =
-        let p = came_below k h.key (sym oe ∙ b) in
-        record { place = sym (omega (arith, rw (split, p) at s.place)); known = ap is_held (rw (split, p) at s.known); small = small }
+  pub seek_same : o ≡ order.Equal → Placed k (entries_of s) i true
+  unfolding seek seen is_held
+  seek_same b =
+      let p = came_same k here.key (sym compared ∙ b) in
+      record { place = sym (omega (arith, rw (split, p.0, p.1) at sought.place)); known = ap is_held (rw (split, p.0, p.1) at sought.known); small = small }
 
-    pub seek_same : o ≡ order.Same → Placed k es i true
-    unfolding seek seen is_held
-    seek_same b =
-        let p = came_same k h.key (sym oe ∙ b) in
-        record { place = sym (omega (arith, rw (split, p.0, p.1) at s.place)); known = ap is_held (rw (split, p.0, p.1) at s.known); small = small }
-
-    pub seek_above : o ≡ order.Above → Seeking k es (i + 1)
-    unfolding seek seen
-    seek_above b =
-        let p = came_above k h.key (sym oe ∙ b) in
-        record { place = rw (add-one i) (omega (arith, rw (split, p.0, p.1) at s.place)); known = rw (add-one i) (rw (split, p.0, p.1) at s.known) }
+  pub seek_above : o ≡ order.Greater → Seeking k (entries_of s) (i + 1)
+  unfolding seek seen
+  seek_above b =
+      let p = came_above k here.key (sym compared ∙ b) in record {
+        place = rw (add-one i) (omega (arith, rw (split, p.0, p.1) at sought.place));
+        known = rw (add-one i) (rw (split, p.0, p.1) at sought.known);
+      }
 
 pub seek_within : (k : List ℕ) (es : List Entry) → seek k es ≤ length es
 unfolding seek

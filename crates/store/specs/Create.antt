@@ -1,15 +1,7 @@
 -- A new store.
 use Rattle.std.specs.Prelude.{ℕ, cond, not, ◌||◌, List, [], length, ltb, eqb}
-use Rattle.entry.specs.Refusal.{number}
 use Rattle.image.specs.Layout.{most_slots, slot_start}
 use Rattle.image.specs.Image.{image}
-use Rattle.store.specs.declared.Created.{Created}
-use Rattle.store.specs.declared.Created.TheVariants.{Fresh, Refused}
-
--- the number of the refusal, or 0 if there is none (R199)
-abbrev pub created_number : Created → ℕ
-created_number Fresh = 0
-created_number (Refused r) = number r
 
 -- 17 if the slots are not 1 to 100, then 4 if the buffer isn't its exact length (R34, R101, R102)
 unfoldable pub create_refusal : List ℕ → ℕ → ℕ

@@ -1,14 +1,14 @@
 -- The entries that a store holds, one by one.
-use Rattle.std.specs.Prelude.{ℕ, zero, suc, ◌+◌, cond, not, List, [], ◌∷◌, length, leb}
+use Rattle.std.specs.Prelude.{ℕ, zero, suc, ◌+◌, cond, not, List, [], ◌∷◌, length, leb, Result, Ok, Err}
 use Rattle.std.proofs.Math.Option.{Option, none, some}
+use Rattle.entry.specs.declared.EntryAt.{EntryAt}
+use Rattle.entry.specs.declared.Refusal.{Refusal}
 use Rattle.entry.specs.declared.Stamp.{Stamp}
 use Rattle.entry.specs.Refusal.{number}
 use Rattle.entry.specs.Entry.{Entry}
 use Rattle.image.specs.Layout.{key_at, slot_start, value_start}
 use Rattle.image.specs.Image.{slot_entry, used_of, sound}
 use Rattle.image.specs.Slot.{slot_at}
-use Rattle.store.specs.declared.Listed.{Listed}
-use Rattle.store.specs.declared.Listed.TheVariants as listed
 
 -- the places of an entry's key and value in the store and their lengths, its flag and its stamp; or
 -- a refusal with its number
@@ -16,9 +16,9 @@ pub data Listing : Type 0 where
   entry : (ka kl va vl flag : ℕ) (stamp : Stamp) → Listing
   refused : ℕ → Listing
 
-abbrev pub listing_of : Listed → Listing
-listing_of (listed.Entry ka kl va vl flag stamp) = entry ka kl va vl flag stamp
-listing_of (listed.Refused r) = refused (number r)
+abbrev pub listing_of : Result EntryAt Refusal → Listing
+listing_of (Ok e) = entry e.key.at e.key.len e.value.at e.value.len e.flag e.stamp
+listing_of (Err r) = refused (number r)
 
 -- the i-th of some entries, counted from 0 (R243)
 unfoldable pub nth : ℕ → List Entry → Option Entry

@@ -1,14 +1,15 @@
 -- Looking a key up.
-use Rattle.std.specs.Prelude.{ℕ, cond, not, List, [], length, eqb}
+use Rattle.std.specs.Prelude.{ℕ, cond, not, List, [], length, eqb, Result, Ok, Err}
 use Rattle.std.proofs.Math.Option.{Option, none, some}
+use Rattle.entry.specs.declared.Refusal.{Refusal}
 use Rattle.entry.specs.Refusal.{number}
 use Rattle.entry.specs.Key.{bad_key}
 use Rattle.entry.specs.Entry.{Entry}
 use Rattle.image.specs.Layout.{value_start}
 use Rattle.image.specs.Image.{sound, entries_of}
 use Rattle.store.specs.Held.{find, index_of}
-use Rattle.store.specs.declared.Looked.{Looked}
-use Rattle.store.specs.declared.Looked.TheVariants as looked
+use Rattle.store.specs.declared.Finding.{Finding as Found}
+use Rattle.store.specs.declared.Finding.TheVariants as found
 
 -- VALUE, with the place of the value in the store and its length; DELETED; NEVER; or a refusal with
 -- its number (R123, R199)
@@ -17,11 +18,11 @@ pub data Finding : Type 0 where
   deleted never : Finding
   refused : ℕ → Finding
 
-abbrev pub finding_of : Looked → Finding
-finding_of (looked.Value at len) = value at len
-finding_of looked.Deleted = deleted
-finding_of looked.Never = never
-finding_of (looked.Refused r) = refused (number r)
+abbrev pub finding_of : Result Found Refusal → Finding
+finding_of (Ok (found.Value span)) = value span.at span.len
+finding_of (Ok found.Deleted) = deleted
+finding_of (Ok found.Never) = never
+finding_of (Err r) = refused (number r)
 
 -- what is said of a key whose entry, if there is one, stands in slot i (R123)
 unfoldable pub finding_for : ℕ → Option Entry → Finding

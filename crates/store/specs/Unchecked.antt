@@ -1,11 +1,12 @@
 -- The calls without the test of soundness, on any bytes: they follow the slots as they stand.
 -- Meaning says what that is worth: on a sound store they are the calls themselves, and on any bytes
 -- an offer is told as stored or replaced only where it was.
-use Rattle.std.specs.Prelude.{◌≡◌, ℕ, zero, suc, ◌+◌, ◌-◌, ◌*◌, ◌<◌, Bool, cond, not, List, [], ◌∷◌, ◌++◌, take, drop, ltb, leb, eqb}
+use Rattle.std.specs.Prelude.{◌≡◌, ℕ, zero, suc, ◌+◌, ◌-◌, ◌*◌, ◌<◌, Bool, cond, not, List, [], ◌∷◌, ◌++◌, take, drop, ltb, leb, eqb, Result, Ok, Err}
 use Rattle.std.proofs.Math.Option.{Option, none, some}
 use Rattle.wire.specs.Number.{be}
 use Rattle.wire.specs.Fill.{field}
 use Rattle.wire.specs.Order.{same_bytes}
+use Rattle.entry.specs.declared.Refusal.{Refusal}
 use Rattle.entry.specs.declared.Refusal.TheVariants.{BadStore, StoreFull, BelowLine}
 use Rattle.entry.specs.Refusal.{number}
 use Rattle.entry.specs.Key.{bad_key}
@@ -15,7 +16,7 @@ use Rattle.image.specs.Layout.{used_at, width_at, slot_width, slot_start}
 use Rattle.image.specs.Image.{slot_bytes, slots_of, used_of, line_of, entries_of}
 use Rattle.image.specs.Slot.{has_slot}
 use Rattle.store.specs.declared.Placement.{Placement}
-use Rattle.store.specs.declared.Placement.TheVariants.{Insert, Replace, Kept, Refused}
+use Rattle.store.specs.declared.Placement.TheVariants.{Insert, Replace, Kept}
 use Rattle.store.specs.Held.{is_held}
 use Rattle.store.specs.Answer.{Answer, stored, replaced, kept, refused}
 use Rattle.store.specs.Lookup.{Finding, finding_for}
@@ -63,31 +64,31 @@ insert_at i w s =
 
 -- where it goes, by what is seen of its key; BAD_STORE where the bytes do not have the slot that is
 -- to be written (R258)
-unfoldable pub placement_for : List ℕ → Entry → Option Entry → Placement
+unfoldable pub placement_for : List ℕ → Entry → Option Entry → Result Placement Refusal
 placement_for s e none =
-    cond (ltb e.stamp.phys (line_of s)) (Refused BelowLine)
-    (cond (leb (slots_of s) (used_of s)) (Refused StoreFull)
-    (cond (has_slot (used_of s) s) (Insert (seek e.key (entries_of s))) (Refused BadStore)))
+    cond (ltb e.stamp.phys (line_of s)) (Err BelowLine)
+    (cond (leb (slots_of s) (used_of s)) (Err StoreFull)
+    (cond (has_slot (used_of s) s) (Ok (Insert (seek e.key (entries_of s)))) (Err BadStore)))
 placement_for s e (some h) =
-    cond (not (beats e h)) Kept
-    (cond (has_slot (seek e.key (entries_of s)) s) (Replace (seek e.key (entries_of s))) (Refused BadStore))
+    cond (not (beats e h)) (Ok Kept)
+    (cond (has_slot (seek e.key (entries_of s)) s) (Ok (Replace (seek e.key (entries_of s)))) (Err BadStore))
 
-abbrev pub placement : List ℕ → Entry → Placement
+abbrev pub placement : List ℕ → Entry → Result Placement Refusal
 placement s e = placement_for s e (seen e.key (entries_of s))
 
 -- what is told of it
-abbrev pub told_of : Placement → Answer
-told_of (Insert i) = stored
-told_of (Replace i) = replaced
-told_of Kept = kept
-told_of (Refused r) = refused (number r)
+abbrev pub told_of : Result Placement Refusal → Answer
+told_of (Ok (Insert i)) = stored
+told_of (Ok (Replace i)) = replaced
+told_of (Ok Kept) = kept
+told_of (Err r) = refused (number r)
 
 -- what is left, where w are the bytes of its slot
-abbrev pub written_at : Placement → List ℕ → List ℕ → List ℕ
-written_at (Insert i) w s = insert_at i w s
-written_at (Replace i) w s = replace_at i w s
-written_at Kept w s = s
-written_at (Refused r) w s = s
+abbrev pub written_at : Result Placement Refusal → List ℕ → List ℕ → List ℕ
+written_at (Ok (Insert i)) w s = insert_at i w s
+written_at (Ok (Replace i)) w s = replace_at i w s
+written_at (Ok Kept) w s = s
+written_at (Err r) w s = s
 
 unfoldable pub after_placed : List ℕ → Entry → List ℕ
 after_placed s e = written_at (placement s e) (slot_bytes e) s

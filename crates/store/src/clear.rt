@@ -16,13 +16,8 @@ fn shift_down(part: &mut [u8])
     ensures { part.new ≡ drop slot_width part.old ++ zeros slot_width }
 {
     let n = part.len();
-    let moved = n - SLOT_WIDTH;
-    let mut i = 0;
-    while i < moved {
-        part[i] = part[i + SLOT_WIDTH];
-        i += 1;
-    }
-    put_be(&mut part[moved..n], 0);
+    part.copy_within(SLOT_WIDTH..n, 0);
+    part[n - SLOT_WIDTH..n].fill(0);
 }
 
 // Counts one slot less, and moves the used slots after slot `at` down by one, over it.
@@ -42,10 +37,7 @@ pub(crate) fn close_slot(store: &mut [u8], at: usize)
 fn is_cleared(slot: &[u8], line: u64) -> bool
     ensures { result ≡ cleared line (slot_entry slot.now) }
 {
-    if slot_flag(slot) != TOMBSTONE {
-        return false;
-    }
-    slot_stamp(slot).phys < line
+    slot_flag(slot) == TOMBSTONE && slot_stamp(slot).phys < line
 }
 
 // Removes each slot of a sound store that holds such a tombstone, and tells how many there were.
@@ -57,9 +49,7 @@ pub(crate) fn clear(store: &mut [u8], line: u64) -> usize
         ≡ image (slots_of store.old) (line_of store.old) (remaining line (entries_of store.old)) }
 {
     let mut count: usize = 0;
-    let mut i = used_count(store);
-    while 0 < i {
-        i -= 1;
+    for i in (0..used_count(store)).rev() {
         if is_cleared(slot(store, i), line) {
             close_slot(store, i);
             count += 1;

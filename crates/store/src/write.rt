@@ -1,26 +1,22 @@
 // The slots of a store written, where its bytes have them.
 ghost use Rattle.std.specs.Prelude.{◌≡◌, ◌+◌, ◌-◌, ◌≤◌, ◌++◌, length, take};
-ghost use Rattle.entry.specs.Entry.{entry_of};
+ghost use Rattle.entry.specs.Entry.{entry_in};
 ghost use Rattle.image.specs.Layout.{slot_width, slot_start};
 ghost use Rattle.image.specs.Image.{slot_bytes, used_of};
 ghost use Rattle.image.specs.Slot.{slot_at};
 ghost use Rattle.store.specs.Unchecked.{replace_at, insert_at};
 
-use entry::Stamp;
+use entry::Entry;
 use image::layout::{HEADER_WIDTH, SLOT_WIDTH, USED_AT, WIDTH_AT};
 use image::{put_slot, used_count};
-use wire::{put_be, put_padded};
+use wire::put_be;
 
 // Moves all but the last slot's bytes up by a slot's width. The first slot's bytes stay.
 fn shift_up(part: &mut [u8])
     requires { slot_width ≤ length part.old }
     ensures { part.new ≡ take slot_width part.old ++ take (length part.old - slot_width) part.old }
 {
-    let mut i = part.len() - SLOT_WIDTH;
-    while 0 < i {
-        i -= 1;
-        part[i + SLOT_WIDTH] = part[i];
-    }
+    part.copy_within(0..part.len() - SLOT_WIDTH, SLOT_WIDTH);
 }
 
 // Counts one slot more, and moves the used slots from slot `at` on up by one. The bytes of slot
@@ -37,20 +33,13 @@ pub(crate) fn open_slot(store: &mut [u8], at: usize)
 }
 
 // Writes an entry over slot `at`.
-pub(crate) fn write_entry(
-    store: &mut [u8],
-    at: usize,
-    key: &[u8],
-    value: &[u8],
-    flag: u8,
-    stamp: Stamp,
-)
+pub(crate) fn write_entry(store: &mut [u8], at: usize, entry: Entry<'_>)
     requires { slot_start (at + 1) ≤ length store.old }
-    ensures { store.new ≡ replace_at at (slot_bytes (entry_of key.now value.now flag stamp)) store.old }
+    ensures { store.new ≡ replace_at at (slot_bytes (entry_in entry.entry)) store.old }
 {
     let start = HEADER_WIDTH + SLOT_WIDTH * at;
     let end = start + SLOT_WIDTH;
-    put_slot(&mut store[start..end], key, value, flag, stamp);
+    put_slot(&mut store[start..end], entry);
 }
 
 // Copies a slot over slot `at`.
@@ -60,5 +49,5 @@ pub(crate) fn write_slot(store: &mut [u8], at: usize, slot: &[u8])
 {
     let start = HEADER_WIDTH + SLOT_WIDTH * at;
     let end = start + SLOT_WIDTH;
-    put_padded(&mut store[start..end], slot);
+    store[start..end].copy_from_slice(slot);
 }

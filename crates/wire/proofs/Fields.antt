@@ -2,7 +2,7 @@
 use mathlib.Core.Path.{◌≡◌, sym, ap, ◌∙◌}
 use mathlib.Core.Logic.{inl, inr}
 use mathlib.Core.List.{List, [], ◌∷◌, ◌++◌}
-use Prim.Native.Nat.{ℕ, zero, suc, ◌+◌, ◌-◌, ◌^◌, ◌≤◌, ◌<◌}
+use Prim.Native.Nat.{ℕ, min, zero, suc, ◌+◌, ◌-◌, ◌^◌, ◌≤◌, ◌<◌}
 use native.Mathlib.Omega.{arith}
 use native.Mathlib.Nat.{lt_of_lt_of_le, pow-le-pow_right}
 use lib.Dec.{lit<, ltb}
@@ -65,6 +65,19 @@ bytes_field at w s h i = elim (test (ltb i w)) [
 -- what get_be reads of a field
 pub num-field : (at w : ℕ) (s : List ℕ) → w ≤ 8 → num (take 8 (field at w s)) ≡ num (field at w s)
 num-field at w s h = num_whole (field at w s) (omega (arith, length-field-le at w s))
+
+pub num_first_field : (at w : ℕ) (s : List ℕ) → num (take 8 (field at w s)) ≡ num (field at (min w 8) s)
+unfolding field
+num_first_field at w s = elim (test (ltb 8 w)) [
+  | inl p ↦
+      let h : 8 < w = ltb-true 8 w p in
+      let e : min w 8 ≡ 8 = omega arith in
+      ap num (take-take 8 w (drop at s) (omega arith)) ∙ ap (λ (n : ℕ). num (take n (drop at s))) (sym e)
+  | inr p ↦
+      let h : w ≤ 8 = ltb-false 8 w p in
+      let e : min w 8 ≡ w = omega arith in
+      num-field at w s h ∙ ap (λ (n : ℕ). num (take n (drop at s))) (sym e)
+]
 
 pub num-field-lt : (at w : ℕ) (s : List ℕ) → Bytes s → num (field at w s) < 256 ^ w
 num-field-lt at w s h = lt_of_lt_of_le (num-lt (field at w s) (bytes_field at w s h)) (pow-le-pow_right (lit< tt) (length-field-le at w s))

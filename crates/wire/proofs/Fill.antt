@@ -1,12 +1,16 @@
 -- Laws of fields and their zero fill.
 use mathlib.Core.Path.{◌≡◌, refl, sym, ap, ap₂, ◌∙◌}
-use Prim.Native.Nat.{ℕ, zero, suc, ◌+◌, ◌-◌, ◌≤◌, ◌<◌}
+use Prim.Native.Nat.{ℕ, min, zero, suc, ◌+◌, ◌-◌, ◌≤◌, ◌<◌}
 use mathlib.Core.List.{List, [], ◌∷◌, ◌++◌, append-nil}
 use native.Mathlib.Omega.{arith}
 use native.Mathlib.Numerals.{add-one}
 use lib.ListN.{length, take, drop, get_or, set, replicate, length-append, length-take, length-drop, length-replicate, get_or-replicate, drop_of_length-le}
 use lib.ListN.{replicate-append-replicate}
 use lib.Seq.{take_at, drop-append-add, drop-cons, take-suc, append_snoc, set_at, length-take-le, take_all, take-append_seam}
+use mathlib.Core.Logic.{inl, inr}
+use lib.Dec.{ltb}
+use borrow.Author.Tests.{ltb-true, ltb-false}
+use Rattle.wire.proofs.Tests.{test}
 use Rattle.wire.specs.Number.{be}
 use Rattle.wire.specs.Fill.{zeros, padded, field}
 
@@ -35,6 +39,36 @@ length-padded w s = length-append (take w s) (zeros (w - length s)) ∙ omega (a
 pub padded_fits : (w : ℕ) (s : List ℕ) → length s ≤ w → padded w s ≡ s ++ zeros (w - length s)
 unfolding padded
 padded_fits w s h = ap (λ (r : List ℕ). r ++ zeros (w - length s)) (take_all w s h)
+
+-- as much as there is of w bytes
+pub take_min : (n w : ℕ) (s : List ℕ) → n ≡ min (length s) w → take n s ≡ take w s
+take_min n w s h = elim (test (ltb w (length s))) [
+  | inl p ↦ let k : w < length s = ltb-true w (length s) p in let e : n ≡ w = omega arith in ap (λ (m : ℕ). take m s) e
+  | inr p ↦ let k : length s ≤ w = ltb-false w (length s) p in take_all n s (omega arith) ∙ sym (take_all w s k)
+]
+
+-- from an offset on, or from the end if there are not as many
+drop_min : (i at : ℕ) (s : List ℕ) → i ≡ min at (length s) → drop i s ≡ drop at s
+drop_min i at s h = elim (test (ltb (length s) at)) [
+  | inl p ↦
+      let k : length s < at = ltb-true (length s) at p in
+      drop_of_length-le s {i = i} (omega arith) ∙ sym (drop_of_length-le s {i = at} (omega arith))
+  | inr p ↦ let k : at ≤ length s = ltb-false (length s) at p in let e : i ≡ at = omega arith in ap (λ (m : ℕ). drop m s) e
+]
+
+-- a field of which there is only a part
+pub field_min : (i at k w : ℕ) (s : List ℕ) → i ≡ min at (length s) → k ≡ min w (length (take (length s - i) (drop i s)))
+    → take k (take (length s - i) (drop i s)) ≡ field at w s
+unfolding field
+field_min i at k w s h g =
+    let r : take (length s - i) (drop i s) ≡ drop at s = take_all (length s - i) (drop i s) (omega (arith, length-drop i s)) ∙ drop_min i at s h in
+    ap (take k) r ∙ take_min k w (drop at s) (g ∙ ap (λ (t : List ℕ). min w (length t)) r ∙ omega arith)
+
+pub padded_min : (n w : ℕ) (s : List ℕ) → n ≡ min (length s) w → take n s ++ zeros (w - n) ≡ padded w s
+unfolding padded
+padded_min n w s h =
+    let e : w - n ≡ w - length s = omega arith in
+    ap₂ (λ (p : List ℕ) (m : ℕ). p ++ zeros m) (take_min n w s h) e
 
 -- what is too long is cut
 pub padded_cut : (w : ℕ) (s : List ℕ) → w ≤ length s → padded w s ≡ take w s

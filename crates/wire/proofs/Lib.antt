@@ -1,6 +1,6 @@
 pub mod Tests
-pub mod Number
 pub mod Fill
+pub mod Number
 pub mod Fields
 pub mod Order
 pub mod Compared

@@ -1,6 +1,6 @@
 -- Laws of big-endian numbers.
 use mathlib.Core.Path.{◌≡◌, refl, sym, ap, ◌∙◌}
-use Prim.Native.Nat.{ℕ, zero, suc, ◌+◌, ◌-◌, ◌*◌, ◌/◌, ◌%◌, ◌^◌, ◌≤◌, ◌<◌}
+use Prim.Native.Nat.{ℕ, min, zero, suc, ◌+◌, ◌-◌, ◌*◌, ◌/◌, ◌%◌, ◌^◌, ◌≤◌, ◌<◌}
 use mathlib.Core.List.{List, [], ◌∷◌, ◌++◌, append-nil}
 use native.Mathlib.Omega.{arith}
 use native.Mathlib.Nat.{not-suc-le-zero, le_of_suc-le-suc, pow-suc, div-lt_iff_lt-mul, div-add-mod'}
@@ -8,6 +8,7 @@ use native.Mathlib.Numerals.{add-one}
 use lib.ListN.{length, take, drop, get_or, set, length-append}
 use lib.Seq.{drop-length, append_snoc, take_all, take-suc}
 use lib.Dec.{lit<}
+use Rattle.wire.proofs.Fill.{take_min}
 use Rattle.wire.specs.Number.{be, num_from, num, Bytes}
 use Rattle.wire.specs.Meaning.{NumBe, BeNum}
 
@@ -87,6 +88,10 @@ num_room (suc (suc (suc (suc (suc (suc (suc (suc i)))))))) x h k = absurd (past 
   where
     past : (i : ℕ) → suc (suc (suc (suc (suc (suc (suc (suc i))))))) ≤ 7 → ⊥
     past i h = omega arith
+
+-- what is read of as many bytes as there are, of eight
+pub num_first : (i : ℕ) (s : List ℕ) → i ≡ min (length s) 8 → num (take i s) ≡ num (take 8 s)
+num_first i s h = ap num (take_min i 8 s h)
 
 -- what get_be reads of at most eight bytes
 pub num_whole : (s : List ℕ) → length s ≤ 8 → num (take 8 s) ≡ num s

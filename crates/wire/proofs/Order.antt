@@ -1,17 +1,18 @@
 -- Laws of the order of byte strings, a strict total order, and of the turns of a comparison.
-use Prim.Native.Nat.{ℕ, ◌+◌, ◌≤◌, ◌<◌}
+use Prim.Native.Nat.{ℕ, ◌<◌}
 use native.Mathlib.Omega.{arith}
-use native.Mathlib.Numerals.{add-one}
 use mathlib.Core.Path.{◌≡◌, refl, sym, ap, ◌∙◌, ap₂}
 use mathlib.Core.Logic.{◌⊎◌, inl, inr}
 use mathlib.Core.Bool.{Bool, true, false, cond}
 use mathlib.Core.List.{List, [], ◌∷◌, ◌++◌}
-use lib.ListN.{length, drop, get_or, drop_of_length-le}
-use lib.Seq.{drop-cons, take_all}
+use lib.Pointwise.{pointwise}
+use Rattle.std.specs.List as library
+use Rattle.std.specs.Ordering.{nat_cmp}
+use lib.ListN.{length, take}
+use Rattle.std.specs.Cmp.Lexicographic.{slice_cmp}
 use lib.Dec.{ltb, eqb}
 use borrow.Author.Tests.{ltb-true, ltb-false, eqb-true, eqb-false, lt-ltb, le-ltb, eq-eqb, ne_eqb}
-use Rattle.wire.proofs.Tests.{test, clash, false_of}
-use Rattle.wire.specs.declared.Comparison.TheVariants.{Below, Same, Above}
+use Rattle.wire.proofs.Tests.{test, clash}
 use Rattle.wire.specs.Order.{same_bytes, bytes_below, comparison, starts_with}
 use Rattle.wire.specs.Meaning.{ProperPrefix, FirstLess, BytesBelowExactly}
 
@@ -163,55 +164,24 @@ bytes_below_exactly a b = (below_by a b, below)
     below (inl p) = rw p.longer (prefix_below a p.next p.rest)
     below (inr p) = rw (p.first, p.second) (lesser_below p.front p.less p.more p.less_rest p.more_rest p.differ)
 
--- ---- a comparison for sameness, byte by byte
-pub same_lengths : (a b : List ℕ) → (length a ≡ length b → ⊥) → same_bytes a b ≡ false
-same_lengths a b h = false_of (same_bytes a b) (λ e. h (ap length (same_bytes_eq a b e)))
+-- ---- the library's answers
+pub pointwise_same : (a b : List ℕ) → pointwise eqb a b ≡ same_bytes a b
+unfolding same_bytes
+pointwise_same [] [] = refl
+pointwise_same [] (b ∷ s) = refl
+pointwise_same (a ∷ r) [] = refl
+pointwise_same (a ∷ r) (b ∷ s) = elim (test (eqb a b)) [ inl p ↦ rw p (pointwise_same r s) | inr p ↦ rw p ]
 
-module _ (a b : List ℕ) (i : ℕ) where
-  pub same_on : i < length a → i < length b → get_or a i 0 ≡ get_or b i 0 → same_bytes (drop (i + 1) a) (drop (i + 1) b) ≡ same_bytes (drop i a) (drop i b)
-  unfolding same_bytes
-  same_on ha hb h = rw (drop-cons a i 0 ha, drop-cons b i 0 hb, eq-eqb (get_or a i 0) (get_or b i 0) h, add-one i)
-
-  pub same_not : i < length a → i < length b → (get_or a i 0 ≡ get_or b i 0 → ⊥) → same_bytes (drop i a) (drop i b) ≡ false
-  unfolding same_bytes
-  same_not ha hb h = rw (drop-cons a i 0 ha, drop-cons b i 0 hb, ne_eqb (get_or a i 0) (get_or b i 0) h)
-
-  pub same_end : length a ≤ i → length b ≤ i → same_bytes (drop i a) (drop i b) ≡ true
-  unfolding same_bytes
-  same_end ha hb = rw (drop_of_length-le b hb, drop_of_length-le a ha)
-
-  -- ---- a comparison for order, byte by byte
-  pub compare_lt : i < length a → i < length b → get_or a i 0 < get_or b i 0 → comparison (drop i a) (drop i b) ≡ Below
-  unfolding comparison bytes_below
-  compare_lt ha hb h = rw (drop-cons a i 0 ha, drop-cons b i 0 hb, lt-ltb _ _ h)
-
-  pub compare_gt : i < length a → i < length b → get_or b i 0 < get_or a i 0 → comparison (drop i a) (drop i b) ≡ Above
-  unfolding comparison bytes_below same_bytes
-  compare_gt ha hb h =
-      let ne : get_or a i 0 ≡ get_or b i 0 → ⊥ = omega arith in
-      rw (drop-cons a i 0 ha, drop-cons b i 0 hb, le-ltb (get_or a i 0) (get_or b i 0) (omega arith), ne_eqb (get_or a i 0) (get_or b i 0) ne)
-
-  pub compare_eq : i < length a → i < length b → get_or a i 0 ≡ get_or b i 0 → comparison (drop (i + 1) a) (drop (i + 1) b) ≡ comparison (drop i a) (drop i b)
-  unfolding comparison bytes_below same_bytes
-  compare_eq ha hb h =
-      rw (drop-cons a i 0 ha, drop-cons b i 0 hb, le-ltb (get_or a i 0) (get_or b i 0) (omega arith), eq-eqb (get_or a i 0) (get_or b i 0) h, add-one i)
-
-  pub compare_past_b : i < length a → length b ≤ i → comparison (drop i a) (drop i b) ≡ Above
-  unfolding comparison bytes_below same_bytes
-  compare_past_b ha hb = rw (drop-cons a i 0 ha, drop_of_length-le b hb)
-
-  pub compare_past_a : length a ≤ i → i < length b → comparison (drop i a) (drop i b) ≡ Below
-  unfolding comparison bytes_below same_bytes
-  compare_past_a ha hb = rw (drop-cons b i 0 hb, drop_of_length-le a ha)
-
-  pub compare_past_both : length a ≤ i → length b ≤ i → comparison (drop i a) (drop i b) ≡ Same
-  unfolding comparison bytes_below same_bytes
-  compare_past_both ha hb = rw (drop_of_length-le b hb, drop_of_length-le a ha)
-
--- a prefix is no longer than what begins with it
-pub too_short : (p s : List ℕ) → length s < length p → false ≡ starts_with p s
+pub starts_same : (p s : List ℕ) → library.starts_with eqb s p ≡ starts_with p s
 unfolding starts_with
-too_short p s h = sym (ap (same_bytes p) (take_all (length p) s (omega arith)) ∙ same_lengths p s (λ e. no (length s) (length p) h e))
-  where
-    no : (m n : ℕ) → m < n → n ≡ m → ⊥
-    no m n h e = omega arith
+starts_same p s = pointwise_same p (take (length p) s)
+
+pub slice_cmp_comparison : (a b : List ℕ) → slice_cmp nat_cmp a b ≡ comparison a b
+unfolding comparison bytes_below same_bytes
+slice_cmp_comparison [] [] = refl
+slice_cmp_comparison [] (b ∷ s) = refl
+slice_cmp_comparison (a ∷ r) [] = refl
+slice_cmp_comparison (a ∷ r) (b ∷ s) = elim (test (ltb a b)) [
+  | inl p ↦ rw p
+  | inr p ↦ elim (test (eqb a b)) [ inl q ↦ rw (p, q) (slice_cmp_comparison r s) | inr q ↦ rw (p, q) ]
+]

@@ -1,14 +1,14 @@
 -- Zeros alone, part by part.
-use Prim.Native.Nat.{ℕ, zero, suc, ◌+◌, ◌-◌, ◌≤◌, ◌<◌}
+use Prim.Native.Nat.{ℕ, zero, suc, ◌+◌, ◌≤◌, ◌<◌}
 use native.Mathlib.Omega.{arith}
 use native.Mathlib.Nat.{not-suc-le-zero, le_of_suc-le-suc}
 use native.Mathlib.Numerals.{add-one}
-use mathlib.Core.Path.{◌≡◌, refl, sym, ap, ap₂, ◌∙◌}
+use mathlib.Core.Path.{◌≡◌, refl, sym, ap, ◌∙◌}
 use mathlib.Core.Logic.{inl, inr}
 use mathlib.Core.Bool.{Bool, ◌&&◌}
 use mathlib.Core.List.{List, [], ◌∷◌}
-use lib.ListN.{length, take, drop, get_or, length-drop}
-use lib.Seq.{take_all, length-take-le, drop-drop}
+use lib.ListN.{length, take, drop, get_or}
+use lib.Seq.{length-take-le}
 use lib.Dec.{eqb}
 use borrow.Author.Tests.{eq-eqb, ne_eqb, eqb-true, eqb-false}
 use Rattle.wire.specs.Fill.{zeros}
@@ -52,17 +52,9 @@ sum_zero a b = elim (test (eqb a 0)) [
   | inr p ↦ rw p (ne_eqb (a + b) 0 (λ e. eqb-false a 0 p (omega arith)))
 ]
 
--- a block of 64 of what is left, and what is left after it
-pub zero_step : (i : ℕ) (s : List ℕ) (b : Bool) → i + 64 ≤ length s → b ≡ all_zero (take (i + 64 - i) (drop i s))
-    → all_zero (drop i s) ≡ (b && all_zero (drop (i + 64) s))
-zero_step i s b h e =
-    let w : i + 64 - i ≡ 64 = omega arith in
-    let k : 64 ≤ length (drop i s) = omega (arith, length-drop i s) in
-    let n : length (take 64 (drop i s)) ≡ 64 = length-take-le 64 (drop i s) k in
-    let f : b ≡ same_bytes (take 64 (drop i s)) (zeros 64) = e ∙ ap (λ (m : ℕ). all_zero (take m (drop i s))) w
-    ∙ ap (λ (m : ℕ). same_bytes (take 64 (drop i s)) (zeros m)) n in
-    zero_split 64 (drop i s) k ∙ ap₂ (λ (x : Bool) (t : List ℕ). x && all_zero t) (sym f) (drop-drop 64 i s)
-
--- the last block
-pub zero_rest : (i : ℕ) (s : List ℕ) → all_zero (take (length s - i) (drop i s)) ≡ all_zero (drop i s)
-zero_rest i s = ap all_zero (take_all (length s - i) (drop i s) (omega (arith, length-drop i s)))
+-- the first k decide, where they are not zeros alone, or else the rest
+pub zero_block : (k : ℕ) (s : List ℕ) (b : Bool) → k ≤ length s → b ≡ all_zero (take k s) → all_zero s ≡ (b && all_zero (drop k s))
+zero_block k s b h e =
+    let n : length (take k s) ≡ k = length-take-le k s h in
+    let f : b ≡ same_bytes (take k s) (zeros k) = e ∙ ap (λ (m : ℕ). same_bytes (take k s) (zeros m)) n in
+    zero_split k s h ∙ ap (λ (x : Bool). x && all_zero (drop k s)) (sym f)

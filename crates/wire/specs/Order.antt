@@ -1,7 +1,7 @@
 -- Byte strings compared.
 use Rattle.std.specs.Prelude.{ℕ, Bool, true, false, cond, List, [], ◌∷◌, length, take, ltb, eqb}
-use Rattle.wire.specs.declared.Comparison.{Comparison}
-use Rattle.wire.specs.declared.Comparison.TheVariants.{Below, Same, Above}
+use Rattle.std.specs.declared.cmp.Ordering.{Ordering}
+use Rattle.std.specs.declared.cmp.Ordering.TheVariants.{Less, Equal, Greater}
 
 unfoldable pub same_bytes : List ℕ → List ℕ → Bool  -- (R108)
 same_bytes [] [] = true
@@ -17,8 +17,8 @@ bytes_below (a ∷ r) [] = false
 bytes_below (a ∷ r) (b ∷ s) = cond (ltb a b) true (cond (eqb a b) (bytes_below r s) false)
 
 -- where a stands against b (R108)
-unfoldable pub comparison : List ℕ → List ℕ → Comparison
-comparison a b = cond (bytes_below a b) Below (cond (same_bytes a b) Same Above)
+unfoldable pub comparison : List ℕ → List ℕ → Ordering
+comparison a b = cond (bytes_below a b) Less (cond (same_bytes a b) Equal Greater)
 
 -- s begins with p (R25)
 unfoldable pub starts_with : List ℕ → List ℕ → Bool

@@ -2,17 +2,36 @@
 // compared. Each function is total: it answers something defined for any slices.
 #![tactic(auto)]
 
-ghost use Rattle.std.specs.Prelude.{◌≡◌, ◌≤◌, length, get_or, take};
+ghost use Rattle.std.specs.Prelude.{◌≡◌, ◌^◌, ◌<◌, ◌≤◌, min, length, take};
 ghost use Rattle.wire.specs.Number.{be, num};
-ghost use Rattle.wire.specs.Fill.{zeros, padded};
+ghost use Rattle.wire.specs.Fill.{zeros, padded, field};
 ghost use Rattle.wire.specs.Order.{same_bytes, comparison, starts_with};
 
-// Where one byte string stands against another.
-#[derive(Clone, Copy)]
-pub enum Comparison {
-    Below,
-    Same,
-    Above,
+use std::cmp::Ordering;
+
+// Where a part of a slice stands: `len` bytes from `at` on.
+#[derive(Clone, Copy, Debug, PartialEq, Eq)]
+pub struct Span {
+    pub at: usize,
+    pub len: usize,
+}
+
+impl Span {
+    // That part of `s`, as much of it as there is.
+    pub fn of(self, s: &[u8]) -> &[u8]
+        ensures { result.now ≡ field self.at self.len s.now }
+    {
+        part(s, self.at, self.len)
+    }
+}
+
+// The `len` bytes of `s` from `at` on, as much of them as there is.
+#[tactic(auto, using(crate::proofs::Fill::field_min))]
+pub fn part(s: &[u8], at: usize, len: usize) -> &[u8]
+    ensures { result.now ≡ field at len s.now }
+{
+    let rest = &s[at.min(s.len())..];
+    &rest[..len.min(rest.len())]
 }
 
 // Fills `out` with `n`, the highest byte first.
@@ -20,11 +39,9 @@ pub fn put_be(out: &mut [u8], n: u64)
     ensures { out.new ≡ be (length out.old) n }
 {
     let mut x = n;
-    let mut i = out.len();
-    while 0 < i {
-        i -= 1;
+    for i in (0..out.len()).rev() {
         out[i] = (x % 256) as u8;
-        x = x / 256;
+        x /= 256;
     }
 }
 
@@ -33,54 +50,28 @@ pub fn get_be(s: &[u8]) -> u64
     ensures { result ≡ num (take 8 s.now) }
 {
     let mut x: u64 = 0;
-    let mut i: usize = 0;
-    while i < 8 {
-        if s.len() <= i {
-            return x;
-        }
-        let b = s[i] as u64;
-        x = x * 256 + b;
-        i += 1;
+    for b in &s[..s.len().min(8)] {
+        x = x * 256 + *b as u64;
     }
     x
 }
 
-// Copies `s` over `out`. The copy and the zeros below have a loop each, so that the compiler can
-// take many bytes at once.
-fn copy(out: &mut [u8], s: &[u8])
-    requires { length out.old ≡ length s.now }
-    ensures { out.new ≡ s.now }
+// The number in the `width` bytes of `s` from `at` on, as much of them as there is; of more than
+// eight bytes, the first eight.
+pub fn number_at(s: &[u8], at: usize, width: usize) -> u64
+    ensures is { result ≡ num (field at (min width 8) s.now) }
+    ensures fits { result < 256 ^ min width 8 }
 {
-    let mut i = 0;
-    while i < out.len() {
-        out[i] = s[i];
-        i += 1;
-    }
-}
-
-// Fills `out` with zeros.
-fn clear(out: &mut [u8])
-    ensures { out.new ≡ zeros (length out.old) }
-{
-    let mut i = 0;
-    while i < out.len() {
-        out[i] = 0;
-        i += 1;
-    }
+    get_be(part(s, at, width))
 }
 
 // Fills `out` with what of `s` it has room for, and zeros after it.
 pub fn put_padded(out: &mut [u8], s: &[u8])
     ensures { out.new ≡ padded (length out.old) s.now }
 {
-    let w = out.len();
-    let n = s.len();
-    if w <= n {
-        copy(out, &s[0..w]);
-        return;
-    }
-    copy(&mut out[0..n], s);
-    clear(&mut out[n..w]);
+    let n = s.len().min(out.len());
+    out[..n].copy_from_slice(&s[..n]);
+    out[n..].fill(0);
 }
 
 // Whether a few bytes are zeros alone: their sum is 0. No turn depends on a byte, so that the
@@ -90,10 +81,8 @@ fn block_is_zero(s: &[u8]) -> bool
     ensures { result ≡ same_bytes s.now (zeros (length s.now)) }
 {
     let mut sum: u64 = 0;
-    let mut i = 0;
-    while i < s.len() {
-        sum += s[i] as u64;
-        i += 1;
+    for b in s {
+        sum += *b as u64;
     }
     sum == 0
 }
@@ -102,67 +91,38 @@ fn block_is_zero(s: &[u8]) -> bool
 pub fn all_zero(s: &[u8]) -> bool
     ensures { result ≡ same_bytes s.now (zeros (length s.now)) }
 {
-    let mut i = 0;
-    while 64 <= s.len() - i {
-        let end = i + 64;
-        if !block_is_zero(&s[i..end]) {
+    // a walk that splits the slice: it counts no index
+    let mut rest = s;
+    while 64 <= rest.len() {
+        let (block, later) = rest.split_at(64);
+        if !block_is_zero(block) {
             return false;
         }
-        i = end;
+        rest = later;
     }
-    block_is_zero(&s[i..])
+    block_is_zero(rest)
 }
 
 // Whether `a` and `b` are the same bytes.
+#[tactic(auto, using(crate::proofs::Order::pointwise_same))]
 pub fn same(a: &[u8], b: &[u8]) -> bool
     ensures { result ≡ same_bytes a.now b.now }
 {
-    if a.len() != b.len() {
-        return false;
-    }
-    let mut i = 0;
-    while i < a.len() {
-        if a[i] != b[i] {
-            return false;
-        }
-        i += 1;
-    }
-    true
+    a == b
 }
 
 // Where `a` stands against `b`, by bytes, a prefix before the longer string.
-pub fn compare(a: &[u8], b: &[u8]) -> Comparison
+#[tactic(auto, using(crate::proofs::Order::slice_cmp_comparison))]
+pub fn compare(a: &[u8], b: &[u8]) -> Ordering
     ensures { result ≡ comparison a.now b.now }
 {
-    let mut i = 0;
-    while i < a.len() {
-        if b.len() <= i {
-            return Comparison::Above;
-        }
-        let x = a[i];
-        let y = b[i];
-        if x < y {
-            return Comparison::Below;
-        }
-        if y < x {
-            return Comparison::Above;
-        }
-        i += 1;
-    }
-    if i < b.len() {
-        Comparison::Below
-    } else {
-        Comparison::Same
-    }
+    a.cmp(b)
 }
 
 // Whether `s` begins with `prefix`.
+#[tactic(auto, using(crate::proofs::Order::starts_same))]
 pub fn starts_with(s: &[u8], prefix: &[u8]) -> bool
     ensures { result ≡ starts_with prefix.now s.now }
 {
-    let n = prefix.len();
-    if s.len() < n {
-        return false;
-    }
-    same(prefix, &s[0..n])
+    s.starts_with(prefix)
 }

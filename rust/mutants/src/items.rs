@@ -117,10 +117,13 @@ impl Source {
 
     pub fn functions(&self) -> Vec<Function> {
         let mut found = Vec::new();
-        let mut owner = 0..0;
+        let mut owner = (String::new(), 0..0);
         for i in 0..self.tokens.len() {
             match self.word(i) {
-                "impl" => owner = i + 1..self.closing(i + 2),
+                // and not as in `rt: &impl Print`
+                "impl" if i == 0 || matches!(self.word(i - 1), "}" | ";" | "]") => {
+                    owner = self.owner(i);
+                }
                 "fn" => found.extend(self.function(i, &owner)),
                 _ => {}
             }
@@ -128,8 +131,28 @@ impl Source {
         found
     }
 
-    /// The function whose `fn` stands at `at`; `owner` spans the name and the block of the last type with methods.
-    fn function(&self, at: usize, owner: &Range<usize>) -> Option<Function> {
+    /// What rt calls the owner of an `impl` block, and the block: `T` of `impl T`, `TTrait` of
+    /// `impl Trait for T`.
+    fn owner(&self, at: usize) -> (String, Range<usize>) {
+        let open = (at..self.tokens.len())
+            .find(|&i| self.word(i) == "{")
+            .unwrap_or(at);
+        let first = if self.word(at + 1) == "<" {
+            (at..open)
+                .find(|&i| self.word(i) == ">")
+                .map_or(at + 1, |i| i + 1)
+        } else {
+            at + 1
+        };
+        let name = match (first..open).find(|&i| self.word(i) == "for") {
+            Some(i) => format!("{}{}", self.word(i + 1), self.word(first)),
+            None => self.word(first).to_string(),
+        };
+        (name, open..self.closing(open))
+    }
+
+    /// The function whose `fn` stands at `at`; `owner` is the last `impl` block.
+    fn function(&self, at: usize, owner: &(String, Range<usize>)) -> Option<Function> {
         let open = (at..self.tokens.len()).find(|&i| self.word(i) == "(")?;
         let close = self.closing(open);
         let mut contracts = Vec::new();
@@ -153,8 +176,8 @@ impl Source {
             Some(self.type_text(colon + 1..part.end))
         });
         let name = self.word(at + 1).to_string();
-        let path = if owner.contains(&at) {
-            format!("{}::{name}", self.word(owner.start))
+        let path = if owner.1.contains(&at) {
+            format!("{}::{name}", owner.0)
         } else {
             name.clone()
         };

@@ -185,11 +185,20 @@ fn c_number(text: &str) -> Option<u64> {
 }
 
 /// The constants that stand at the beginning of a line: of `src/lib.rs`, or of
-/// a crate. One may be a sum of numbers and of constants before it.
+/// a crate. One may be a sum of numbers and of constants before it. Beside them
+/// the cases of enums that have a number.
 fn constants(code: &str, known: &Numbers) -> Numbers {
     let mut numbers = known.clone();
     for line in code.lines() {
-        let line = line.strip_prefix("pub ").unwrap_or(line);
+        if let Some((case, number)) = line.strip_suffix(',').and_then(|l| l.split_once(" = ")) {
+            if let Ok(number) = number.parse() {
+                numbers.insert(case.trim().to_string(), number);
+            }
+        }
+        let line = ["pub ", "pub(crate) "]
+            .iter()
+            .find_map(|public| line.strip_prefix(public))
+            .unwrap_or(line);
         let constant = line.strip_prefix("const ").and_then(|l| l.split_once(':'));
         let sum = constant.and_then(|(_, rest)| rest.strip_suffix(';')?.split_once('='));
         let (Some((name, _)), Some((_, sum))) = (constant, sum) else {
@@ -247,14 +256,14 @@ const IN_THE_CODE: [(&str, &str, &str); 34] = [
     ("SP_FLAG_ACTIVE", "entry", "ACTIVE"),
     ("SP_FLAG_TOMBSTONE", "entry", "TOMBSTONE"),
     ("SP_FRAME_MAX", "frame", "MAX_FRAME"),
-    ("SP_TYPE_PUT", "frame", "PUT"),
-    ("SP_TYPE_GET", "frame", "GET"),
-    ("SP_TYPE_DEL", "frame", "DEL"),
-    ("SP_TYPE_REPL", "frame", "REPL"),
-    ("SP_TYPE_OK", "frame", "OK"),
-    ("SP_TYPE_VALUE", "frame", "VALUE"),
-    ("SP_TYPE_NOTFOUND", "frame", "NOT_FOUND"),
-    ("SP_TYPE_ERR", "frame", "ERR"),
+    ("SP_TYPE_PUT", "frame", "Put"),
+    ("SP_TYPE_GET", "frame", "Get"),
+    ("SP_TYPE_DEL", "frame", "Del"),
+    ("SP_TYPE_REPL", "frame", "Repl"),
+    ("SP_TYPE_OK", "frame", "Ok"),
+    ("SP_TYPE_VALUE", "frame", "Value"),
+    ("SP_TYPE_NOTFOUND", "frame", "NotFound"),
+    ("SP_TYPE_ERR", "frame", "Err"),
     ("SP_SLOTS_MAX", "image", "MAX_SLOTS"),
     ("SP_STATE_ALIVE", "peers", "ALIVE"),
     ("SP_STATE_SUSPECT", "peers", "SUSPECT"),
@@ -268,13 +277,13 @@ const IN_THE_CODE: [(&str, &str, &str); 34] = [
     ("SP_PEERS_WORDS", "capi_cluster", "TABLE_WORDS"),
     ("SP_DELIVERIES_MAX", "deliveries", "MAX_DELIVERIES"),
     ("SP_NO_DELIVERY", "capi_audit", "NO_DELIVERY"),
-    ("SP_WON", "explain", "WON"),
-    ("SP_EARLIER_TIME", "explain", "EARLIER_TIME"),
-    ("SP_LOWER_COUNT", "explain", "LOWER_COUNT"),
-    ("SP_LOWER_NODE", "explain", "LOWER_NODE"),
-    ("SP_SAME_ENTRY", "explain", "SAME_ENTRY"),
-    ("SP_OTHER_KEY", "explain", "OTHER_KEY"),
-    ("SP_LOWER_CONTENT", "explain", "LOWER_CONTENT"),
+    ("SP_WON", "explain", "Won"),
+    ("SP_EARLIER_TIME", "explain", "EarlierTime"),
+    ("SP_LOWER_COUNT", "explain", "LowerCount"),
+    ("SP_LOWER_NODE", "explain", "LowerNode"),
+    ("SP_SAME_ENTRY", "explain", "SameEntry"),
+    ("SP_OTHER_KEY", "explain", "OtherKey"),
+    ("SP_LOWER_CONTENT", "explain", "LowerContent"),
 ];
 
 #[test]

@@ -1,29 +1,30 @@
-use native.Mathlib.Omega.{arith}
-use mathlib.Core.Path.{sym, ap, ◌∙◌}
-use Rattle.peers.specs.Event.{answer_number, fresh_answer, after_fresh}
+use Rattle.std.proofs.Common.{arith, sym}
+use Rattle.peers.specs.Event.{fresh_answer, after_fresh}
 use Rattle.capi_cluster.specs.Words.{table_words}
-use Rattle.capi_words.proofs.Fronts.{front_no_room}
-use Rattle.capi_cluster.proofs.Events.{fresh_refused, fresh_long, fresh-put}
+use Rattle.capi_words.proofs.Fronts.{front_refused, front_no_room}
+use Rattle.capi_cluster.proofs.Events.{fresh_long, fresh-put}
 use Rattle.capi_cluster.proofs.sp_peers_fresh.Goals as goal
 
-pub returns-in-Refused : goal.returns-in-Refused
-returns-in-Refused c =
+pub returns-in-Err : goal.returns-in-Err
+returns-in-Err c =
     let a = c.args in
     let table = after_fresh a.id a.address a.port a.incarnation a.time in
-    let p = fresh_refused (fresh_answer a.time) (table_words table) a.table.now _ _ _ c.in-Refused.is c.fresh-fresh.ensures.answer
-    c.refused.ensures in record { told = p.told; left = p.left }
+    let p = front_refused (fresh_answer a.time) (table_words table) a.table.now _ c.in-Err.why c.in-Err.ensures.answer c.refused.ensures in
+    record { told = p.told; left = p.left }
 
-pub returns-then-table-lt61 : goal.returns-then-table-lt61
-returns-then-table-lt61 c =
+pub returns-then-table-lt-TABLE_WORDS : goal.returns-then-table-lt-TABLE_WORDS
+returns-then-table-lt-TABLE_WORDS c =
     let a = c.args in
-    let z = sym c.fresh-fresh.ensures.answer ∙ ap answer_number c.in_default.is in
+    let z = sym c.in-Ok.ensures.answer in
     let l = fresh_long a.id a.address a.port a.incarnation a.time z in
     let table = after_fresh a.id a.address a.port a.incarnation a.time in
     let p = front_no_room (fresh_answer a.time) (table_words table) a.table.now _ z
-    (omega arith) c.refused-then-table-lt61.ensures in record { told = p.told; left = p.left }
+    (omega (arith, l, c.if-table-lt-TABLE_WORDS.true)) c.refused-then-table-lt-TABLE_WORDS.ensures in
+    record { told = p.told; left = p.left }
 
-pub returns : goal.returns
-returns c =
+pub returns-else-table-lt-TABLE_WORDS : goal.returns-else-table-lt-TABLE_WORDS
+returns-else-table-lt-TABLE_WORDS c =
     let a = c.args in
-    let p = fresh-put a.id a.address a.port a.incarnation a.time a.table.now _ _ _ c.fresh-fresh.ensures
-    c.in_default.is c.if-table-lt61.false c.put_changed.ensures.told c.put_changed.ensures.left in record { told = p.told; left = p.left }
+    let p = fresh-put a.id a.address a.port a.incarnation a.time a.table.now _ c.in-Ok.fresh c.in-Ok.ensures c.if-table-lt-TABLE_WORDS.false
+    c.put_table.ensures in
+    record { told = p.told; left = p.left }

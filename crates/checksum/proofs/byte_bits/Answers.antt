@@ -1,15 +1,18 @@
-use borrow.Author.Rules.{rules}
-use mathlib.Core.Path.{◌∙◌}
-use Rattle.checksum.specs.Crc32c.{byte_step}
-use Rattle.checksum.proofs.Loops.{one_less, none_left}
+use Rattle.std.proofs.Common.{arith, ◌≡◌, refl, ap, ◌∙◌}
+use Rattle.std.specs.Int.Bits.{bit_xor}
+use Rattle.checksum.specs.Crc32c.{steps, byte_step}
+use Rattle.checksum.proofs.Loops.{one_more}
 use Rattle.checksum.proofs.byte_bits.Goals as goal
 
-pub loop-left-init : goal.loop-left-init
-unfolding byte_step
-loop-left-init c = search rules
+pub loop-init : goal.loop-init
+unfolding steps
+loop-init c = refl
 
-pub loop-left-preserved : goal.loop-left-preserved
-loop-left-preserved c = (search rules, rw c.bit_step-x.ensures (one_less _ _ c.loop-left-test.true ∙ c.loop-left.invariant.1))
+pub loop-preserved : goal.loop-preserved
+loop-preserved c = one_more _ _ _ c.bit_step-x.result c.loop.invariant c.bit_step-x.ensures
 
 pub returns : goal.returns
-returns c = none_left _ _ c.loop-left-test.false ∙ c.loop-left.invariant.1
+unfolding byte_step
+returns c =
+    let e : c.loop.counter ≡ 8 = omega arith in
+    c.loop.invariant ∙ ap (λ n. steps n (bit_xor c.args.c c.args.b)) e

@@ -1,10 +1,7 @@
-use mathlib.Core.Path.{◌≡◌}
-use Prim.Native.Nat.{◌≤◌}
-use Rattle.checksum.specs.Crc32c.{steps, byte_step}
+use Rattle.std.proofs.Common.{◌≡◌}
+use Rattle.std.specs.Int.Bits.{bit_xor}
+use Rattle.checksum.specs.Crc32c.{steps}
 use Rattle.checksum.proofs.byte_bits.Given as goal
 
-abbrev pub invariant-loop-left : goal.invariant-loop-left
-invariant-loop-left l = (l.left ≤ 8) × (steps l.left l.x ≡ byte_step l.c l.b)
-
-abbrev pub decreases-loop-left : goal.decreases-loop-left
-decreases-loop-left l = l.left
+abbrev pub invariant-loop : goal.invariant-loop
+invariant-loop l = l.x ≡ steps l.counter (bit_xor l.c l.b)

@@ -1,8 +1,8 @@
-use Rattle.wire.proofs.Fields.{rest}
-use Rattle.checksum.proofs.Words.{eight_bytes}
+use Rattle.std.proofs.Common.{arith, ◌≡◌, ◌∙◌, length}
+use Rattle.checksum.proofs.Words.{le_word}
 use Rattle.checksum.proofs.word.Goals as goal
 
 pub returns : goal.returns
 returns c =
-    let a = c.args in
-    rw (c.half-2.ensures.0, c.half.ensures.0, rest) (eight_bytes a.s.now c.requires)
+    let eight : length c.args.s.now ≡ 8 = omega arith in
+    c.from_le_bytes.ensures ∙ le_word c.args.s.now eight

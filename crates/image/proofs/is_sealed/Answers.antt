@@ -10,26 +10,26 @@ use Rattle.image.proofs.is_sealed.Goals as goal
 pub returns-then-not-all_zero : goal.returns-then-not-all_zero
 returns-then-not-all_zero c =
     let a = c.args in
-    bad_fill a.slot.now a.klen a.vlen c.requires.1
+    bad_fill a.slot.now a.klen a.vlen c.requires
     (zero_test _ _ _ c.all_zero.ensures c.part.ensures ∙ c.if-not-all_zero.true)
 
 pub returns-then-not-all_zero-2 : goal.returns-then-not-all_zero-2
 returns-then-not-all_zero-2 c =
     let a = c.args in
-    bad_key_fill a.slot.now a.klen a.vlen c.requires.1
+    bad_key_fill a.slot.now a.klen a.vlen c.requires
     (zero_test _ _ _ c.all_zero-2.ensures c.part-2.ensures ∙ c.if-not-all_zero-2.true)
 
 pub returns-then-not-all_zero-3 : goal.returns-then-not-all_zero-3
 returns-then-not-all_zero-3 c =
     let a = c.args in
-    bad_value_fill a.slot.now a.klen a.vlen c.requires.1
+    bad_value_fill a.slot.now a.klen a.vlen c.requires
     (zero_test _ _ _ c.all_zero-3.ensures c.part-3.ensures ∙ c.if-not-all_zero-3.true)
 
 pub returns : goal.returns
 returns c =
     let a = c.args in
     let s = a.slot.now in
-    let p = c.requires.1 in
+    let p = c.requires in
     sealed_by_sum s a.klen a.vlen p (λ i. (c.type_inv.slot i).fits)
     (zero_is 3 _ (length-field 13 3 s (omega (arith, p.long)))
     (zero_test _ _ _ c.all_zero.ensures c.part.ensures ∙ c.if-not-all_zero.false))
@@ -37,5 +37,5 @@ returns c =
     (zero_test _ _ _ c.all_zero-2.ensures c.part-2.ensures ∙ c.if-not-all_zero-2.false))
     (zero_is (value_width - a.vlen) _ (length-field (value_at + a.vlen) (value_width - a.vlen) s (omega (arith, p.long, p.value_fits)))
     (zero_test _ _ _ c.all_zero-3.ensures c.part-3.ensures ∙ c.if-not-all_zero-3.false))
-    c.crc32c_with.result c.number.result (c.crc32c_with.ensures.by_bits c.requires.0 ∙ ap crc32c c.part-4.ensures)
-    (omega (arith, c.crc32c_with.type_inv)) c.number.ensures.is
+    c.sum.result c.number_at.result (c.sum.ensures ∙ ap crc32c c.part-4.ensures)
+    (omega (arith, c.sum.type_inv)) c.number_at.ensures.is

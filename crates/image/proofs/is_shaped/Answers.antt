@@ -21,13 +21,13 @@ pub returns-then-store-slots : goal.returns-then-store-slots
 returns-then-store-slots c =
     bad_size c.args.store.now c.slot_count-slots.result c.slot_count-slots.ensures.is c.if-store-slots.true
 
-pub returns-then-number : goal.returns-then-number
-returns-then-number c =
-    bad_width c.args.store.now c.number.result c.number.ensures.is c.if-number.true
+pub returns-then-number_at : goal.returns-then-number_at
+returns-then-number_at c =
+    bad_width c.args.store.now c.number_at.result c.number_at.ensures.is c.if-number_at.true
 
-pub returns-then-number-2 : goal.returns-then-number-2
-returns-then-number-2 c =
-    bad_offset c.args.store.now c.number-2.result c.number-2.ensures.is c.if-number-2.true
+pub returns-then-number_at-2 : goal.returns-then-number_at-2
+returns-then-number_at-2 c =
+    bad_offset c.args.store.now c.number_at-2.result c.number_at-2.ensures.is c.if-number_at-2.true
 
 pub returns : goal.returns
 returns c =
@@ -37,5 +37,5 @@ returns c =
     sym (zero_test _ _ _ c.all_zero.ensures c.part.ensures) ∙ shaped_by_rest s (λ i. (c.type_inv.store i).fits)
     (omega (arith, n.ensures.is, c.if-slots-lt1.false)) (omega (arith, n.ensures.is, c.if-slots-gt-MAX_SLOTS.false))
     (omega (arith, n.ensures.is, u.ensures.is, c.if-slots-used_count.false))
-    (c.if-store-slots.false ∙ ap slot_start n.ensures.is) (sym c.number.ensures.is ∙ c.if-number.false)
-    (sym c.number-2.ensures.is ∙ c.if-number-2.false)
+    (c.if-store-slots.false ∙ ap slot_start n.ensures.is) (sym c.number_at.ensures.is ∙ c.if-number_at.false)
+    (sym c.number_at-2.ensures.is ∙ c.if-number_at-2.false)

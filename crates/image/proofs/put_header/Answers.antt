@@ -24,4 +24,4 @@ returns c =
     let w3 = write_number s 4 2 _ _ _ w2 slot_width (omega arith) c.put_be-3.ensures in
     let w4 = write_number s 6 2 _ _ _ w3 header_width (omega arith) c.put_be-4.ensures in
     let w5 = write_number s 8 6 _ _ _ w4 0 (omega arith) c.put_be-5.ensures in
-    write_fill s 14 2 _ _ _ w5 n c.put_be-6.ensures ∙ sym (rw (eq-eqb (length s) header_width n))
+    write_fill s 14 2 _ _ _ w5 n (c.fill.ensures.after (λ y e. e)) ∙ sym (rw (eq-eqb (length s) header_width n))

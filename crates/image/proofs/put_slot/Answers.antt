@@ -11,7 +11,7 @@ use Rattle.wire.proofs.Writing.{written_none, write_next, written_all}
 use Rattle.wire.proofs.Fill.{length-padded}
 use Rattle.wire.proofs.Number.{length-be}
 use Rattle.checksum.specs.Crc32c.{crc32c}
-use Rattle.entry.specs.Entry.{entry_of}
+use Rattle.entry.specs.Entry.{entry_in}
 use Rattle.image.specs.Layout.{key_at, key_width, value_at, value_width, body_width, slot_width}
 use Rattle.image.specs.Slot.{slot_with}
 use Rattle.image.specs.Image.{slot_head, slot_body, slot_bytes}
@@ -28,7 +28,7 @@ returns c =
     let a = c.args in
     let s = a.slot.now in
     let n : length s ≡ slot_width = c.if-slot-ne-SLOT_WIDTH.false in
-    let e = entry_of a.key.now a.value.now a.flag a.stamp in
+    let e = entry_in a.entry in
     let w1 = write_next (λ (w : ℕ). slot_head e) 0 key_at _ s _ _ (length_head e) (omega arith) (written_none s) c.put_head.ensures in
     let w2 = write_next (λ (w : ℕ). padded w e.key) key_at key_width _ s _ _ (length-padded key_width _) (omega arith) w1
     c.put_padded.ensures in

@@ -6,4 +6,4 @@ use Rattle.image.proofs.slot_value.Goals as goal
 
 pub returns : goal.returns
 unfolding value_in field
-returns c = c.part-2.ensures ∙ ap₂ take c.number-n.ensures.is c.part.ensures
+returns c = c.part-2.ensures ∙ ap₂ take c.number_at-n.ensures.is c.part.ensures

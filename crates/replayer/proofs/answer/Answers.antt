@@ -1,3 +1,5 @@
+use mathlib.Core.Path.{sym}
+use lib.Seq.{length-take-le}
 use native.Mathlib.Omega.{arith}
 use Rattle.replayer.proofs.Answers.{call_within, call_short}
 use Rattle.replayer.proofs.Turning.{answer_leaves}
@@ -6,6 +8,10 @@ use Rattle.replayer.proofs.answer.Goals as goal
 pub slice_bounds-append-end : goal.slice_bounds-append-end
 slice_bounds-append-end c =
     call_within _ _ _ _ _ _ _ _ c.handle-handled.ensures
+
+pub slice_bounds-append-end-2 : goal.slice_bounds-append-end-2
+slice_bounds-append-end-2 c =
+    sym (length-take-le _ _ (call_within _ _ _ _ _ _ _ _ c.handle-handled.ensures))
 
 pub append-filled-requires : goal.append-filled-requires
 append-filled-requires c =

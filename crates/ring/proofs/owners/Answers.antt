@@ -10,6 +10,7 @@ use Rattle.ring.specs.Walk.{admitted_with_place}
 use Rattle.ring.specs.Owners.{bad_request}
 use Rattle.ring.proofs.Meeting.{before-le}
 use Rattle.ring.proofs.Choosing.{count_met, put_owners, at_most_3, says, unfit, ring_unsound, too_few, no_room, all_written}
+use Rattle.ring.proofs.Scan.{before_taken}
 use Rattle.ring.proofs.owners.Goals as goal
 
 pub returns-then-bad_request : goal.returns-then-bad_request
@@ -25,14 +26,15 @@ pub walk-taken-requires : goal.walk-taken-requires
 walk-taken-requires c =
     let fit : bad_request c.args.peers c.args.count ≡ false = sym c.bad_request.ensures ∙ c.if-bad_request.false in
     let a = c.args in
-    (rw c.start.ensures (before-le a.position a.ring.now), at_most_3 _ _ fit)
+    (rw (c.start.ensures, before_taken a.position a.ring.now) (before-le a.position a.ring.now), at_most_3 _ _ fit)
 
 pub returns-then-met-wanted : goal.returns-then-met-wanted
 returns-then-met-wanted c =
     let fit : bad_request c.args.peers c.args.count ≡ false = sym c.bad_request.ensures ∙ c.if-bad_request.false in
     let sound : sound_ring c.args.ring.now ≡ true = sym c.is_sound.ensures ∙ c.if-not-is_sound.false in
     let counted : let a = c.args in c.walk-taken.result.count ≡ min a.count (admitted_with_place (admits a.admission a.peers) a.ring.now) = let a =
-    c.args in count_met _ _ _ c.admitted-flags.ensures _ a.position _ _ _ _ c.start.ensures c.walk-taken.ensures (at_most_3 _ _ fit) in
+    c.args in count_met _ _ _ c.admitted-flags.ensures _ a.position _ _ _ _
+    (c.start.ensures ∙ before_taken a.position a.ring.now) c.walk-taken.ensures (at_most_3 _ _ fit) in
     answer_output (says _ _ _ _ _ _ (refuses 10)
     (too_few _ _ _ _ _ fit sound (omega (arith, counted))))
 
@@ -41,7 +43,8 @@ returns-then-out-wanted c =
     let fit : bad_request c.args.peers c.args.count ≡ false = sym c.bad_request.ensures ∙ c.if-bad_request.false in
     let sound : sound_ring c.args.ring.now ≡ true = sym c.is_sound.ensures ∙ c.if-not-is_sound.false in
     let counted : let a = c.args in c.walk-taken.result.count ≡ min a.count (admitted_with_place (admits a.admission a.peers) a.ring.now) = let a =
-    c.args in count_met _ _ _ c.admitted-flags.ensures _ a.position _ _ _ _ c.start.ensures c.walk-taken.ensures (at_most_3 _ _ fit) in
+    c.args in count_met _ _ _ c.admitted-flags.ensures _ a.position _ _ _ _
+    (c.start.ensures ∙ before_taken a.position a.ring.now) c.walk-taken.ensures (at_most_3 _ _ fit) in
     answer_output (says _ _ _ _ _ _ (refuses 4)
     (no_room _ _ _ _ _ fit sound (omega (arith, counted)) c.if-out-wanted.true))
 
@@ -57,8 +60,10 @@ returns c =
     let fit : bad_request c.args.peers c.args.count ≡ false = sym c.bad_request.ensures ∙ c.if-bad_request.false in
     let sound : sound_ring c.args.ring.now ≡ true = sym c.is_sound.ensures ∙ c.if-not-is_sound.false in
     let counted : let a = c.args in c.walk-taken.result.count ≡ min a.count (admitted_with_place (admits a.admission a.peers) a.ring.now) = let a =
-    c.args in count_met _ _ _ c.admitted-flags.ensures _ a.position _ _ _ _ c.start.ensures c.walk-taken.ensures (at_most_3 _ _ fit) in
+    c.args in count_met _ _ _ c.admitted-flags.ensures _ a.position _ _ _ _
+    (c.start.ensures ∙ before_taken a.position a.ring.now) c.walk-taken.ensures (at_most_3 _ _ fit) in
     let a = c.args in
     answer_output (all_written _ _ _ _ _ fit sound (omega (arith, counted)) _ _ c.if-out-wanted.false
     (c.put.ensures
-    ∙ put_owners _ _ _ c.admitted-flags.ensures _ a.position _ _ _ _ c.start.ensures c.walk-taken.ensures (at_most_3 _ _ fit) a.out.now))
+    ∙ put_owners _ _ _ c.admitted-flags.ensures _ a.position _ _ _ _
+    (c.start.ensures ∙ before_taken a.position a.ring.now) c.walk-taken.ensures (at_most_3 _ _ fit) a.out.now))

@@ -1,63 +1,26 @@
 use native.Mathlib.Omega.{arith}
-use mathlib.Core.Path.{ap, ap₂, ◌∙◌}
-use mathlib.Core.Bool.{not}
-use mathlib.Core.List.{List}
-use Prim.Native.Nat.{ℕ}
-use lib.Dec.{ltb}
-use Rattle.entry.specs.declared.Stamp.{Stamp}
-use Rattle.image.specs.Image.{key_in, stamp_in, slot_entry, entries_of}
-use Rattle.image.proofs.ImageLaws.{entry_at, used_is}
-use Rattle.store.specs.Held.{is_held}
-use Rattle.store.specs.Unchecked.{seen}
-use Rattle.store.proofs.Ways.{counting_none, counting_next, counting_end, one_most}
+use mathlib.Core.Path.{sym, ◌∙◌}
+use Rattle.image.proofs.ImageLaws.{used_is}
+use Rattle.store.proofs.Ways.{counting_held, counting_old, counting_new, counting_end}
 use Rattle.store.proofs.count_new.Goals as goal
+use Rattle.store.proofs.count_new.Goals.{then-slot_stamp-line, else-slot_stamp-line}
 
-pub loop-j-init : goal.loop-j-init
-loop-j-init c = counting_none _ _ _
-
-pub overflow_add-new : goal.overflow_add-new
-overflow_add-new c =
-    omega (
-      arith,
-      c.used_count-used.ensures.small,
-      c.loop-j-test.true,
-      c.loop-j.invariant.new_most,
-      one_most c.seek-place.result.held (not (ltb c.slot_stamp-stamp.result.phys c.purge_line-line.result)) c.tally-new.result c.tally-new.ensures,
-    )
-
-pub overflow_add-passed : goal.overflow_add-passed
-overflow_add-passed c =
-    omega (
-      arith,
-      c.used_count-used.ensures.small,
-      c.loop-j-test.true,
-      c.loop-j.invariant.passed_most,
-      one_most c.seek-place.result.held (ltb c.slot_stamp-stamp.result.phys c.purge_line-line.result) c.tally-passed.result c.tally-passed.ensures,
-    )
-
-pub overflow_add-j : goal.overflow_add-j
-overflow_add-j c =
-    omega (arith, c.used_count-used.ensures.small, c.loop-j-test.true)
-
-pub loop-j-smaller : goal.loop-j-smaller
-loop-j-smaller c = omega (arith, c.loop-j-test.true)
+pub loop-j-preserved-then-is_ok : goal.loop-j-preserved-then-is_ok
+loop-j-preserved-then-is_ok c =
+    counting_held _ _ c.args.giver.now _ _ _ c.loop-j.invariant (omega (arith, c.used_count-j-end.ensures.is)) _ _ c.slot-given.ensures c.slot_key.ensures
+    _ c.seek.ensures (sym c.is_ok.ensures.value ∙ c.if-is_ok.true)
 
 pub loop-j-preserved : goal.loop-j-preserved
-unfolding slot_entry
 loop-j-preserved c =
-    let a = c.args in
-    let j = c.loop-j.j in
-    let g = a.giver.now in
-    let hs = entries_of a.receiver.now in
-    let is-slot = c.slot-given.ensures in
-    counting_next _ hs (entries_of g) j _ _ c.loop-j.invariant _
-    (entry_at j g (omega (arith, c.used_count-used.ensures.is, c.loop-j-test.true))) _ _
-    (c.seek-place.ensures.known ∙ ap (λ (k : List ℕ). is_held (seen k hs)) (c.slot_key.ensures ∙ ap key_in is-slot))
-    (ap₂ (λ (s : Stamp) (l : ℕ). ltb s.phys l) (c.slot_stamp-stamp.ensures ∙ ap stamp_in is-slot) c.purge_line-line.ensures.is) _ _
-    c.tally-new.ensures c.tally-passed.ensures
+    let g = c.args.giver.now in
+    elim c.if-slot_stamp-line.branch [
+      | then-slot_stamp-line w ↦ rw (w.new-is, w.passed-is)
+          (counting_old _ _ g _ _ _ c.loop-j.invariant (omega (arith, c.used_count-j-end.ensures.is)) _ _ c.slot-given.ensures c.slot_key.ensures
+          _ c.seek.ensures (sym c.is_ok.ensures.value ∙ c.if-is_ok.false) _ c.slot_stamp.ensures _ c.purge_line-line.ensures.is w.if-slot_stamp-line.true)
+      | else-slot_stamp-line w ↦ rw (w.new-is, w.passed-is)
+          (counting_new _ _ g _ _ _ c.loop-j.invariant (omega (arith, c.used_count-j-end.ensures.is)) _ _ c.slot-given.ensures c.slot_key.ensures
+          _ c.seek.ensures (sym c.is_ok.ensures.value ∙ c.if-is_ok.false) _ c.slot_stamp.ensures _ c.purge_line-line.ensures.is w.if-slot_stamp-line.false)
+    ]
 
 pub returns : goal.returns
-returns c =
-    let g = c.args.giver.now in
-    counting_end _ _ (entries_of g) c.loop-j.j _ _ c.loop-j.invariant
-    (omega (arith, c.used_count-used.ensures.is, c.loop-j-test.false, used_is g))
+returns c = counting_end _ _ _ c.loop-j.j _ _ c.loop-j.invariant (omega (arith, c.used_count-j-end.ensures.is, used_is c.args.giver.now))

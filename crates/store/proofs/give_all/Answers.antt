@@ -1,5 +1,5 @@
 use native.Mathlib.Omega.{arith}
-use mathlib.Core.Path.{◌≡◌, refl, ap, ◌∙◌}
+use mathlib.Core.Path.{◌≡◌, ap, ◌∙◌}
 use mathlib.Core.List.{List}
 use Prim.Native.Nat.{ℕ, ◌<◌}
 use lib.ListN.{length}
@@ -12,43 +12,29 @@ use Rattle.store.proofs.Splices.{slot_is}
 use Rattle.store.proofs.Ways.{give_next, give_end}
 use Rattle.store.proofs.give_all.Goals as goal
 
-pub loop-given-init : goal.loop-given-init
-loop-given-init c = (refl, refl)
-
 pub give-requires : goal.give-requires
 give-requires c =
-    let used-slot : c.loop-given.given < used_of c.args.giver.now = omega (arith, c.used_count-used.ensures.is, c.loop-given-test.true) in
-    let sealed-slot : let t = slot_at c.loop-given.given c.args.giver.now in t ≡ slot_bytes (slot_entry t) = let g =
-    c.args.giver.now in slot_is g (sound_is g c.requires) c.loop-given.given used-slot in
+    let used-slot : c.loop-i.i < used_of c.args.giver.now = omega (arith, c.used_count-i-end.ensures.is, c.loop-i-test.true) in
+    let sealed-slot : let t = slot_at c.loop-i.i c.args.giver.now in t ≡ slot_bytes (slot_entry t) = let g =
+    c.args.giver.now in slot_is g (sound_is g c.requires) c.loop-i.i used-slot in
     ap length (c.slot.ensures ∙ sealed-slot) ∙ length_slot _
 
-pub overflow_add-given : goal.overflow_add-given
-overflow_add-given c =
-    omega (arith, c.used_count-used.ensures.small, c.loop-given-test.true)
-
-pub loop-given-smaller : goal.loop-given-smaller
-loop-given-smaller c =
-    omega (arith, c.loop-given-test.true)
-
-pub loop-given-preserved : goal.loop-given-preserved
+pub loop-i-preserved : goal.loop-i-preserved
 unfolding after_placed
-loop-given-preserved c =
-    let used-slot : c.loop-given.given < used_of c.args.giver.now = omega (arith, c.used_count-used.ensures.is, c.loop-given-test.true) in
-    let sealed-slot : let t = slot_at c.loop-given.given c.args.giver.now in t ≡ slot_bytes (slot_entry t) = let g =
-    c.args.giver.now in slot_is g (sound_is g c.requires) c.loop-given.given used-slot in
-    let l = c.loop-given in
+loop-i-preserved c =
+    let used-slot : c.loop-i.i < used_of c.args.giver.now = omega (arith, c.used_count-i-end.ensures.is, c.loop-i-test.true) in
+    let sealed-slot : let t = slot_at c.loop-i.i c.args.giver.now in t ≡ slot_bytes (slot_entry t) = let g =
+    c.args.giver.now in slot_is g (sound_is g c.requires) c.loop-i.i used-slot in
+    let l = c.loop-i in
     let g = c.args.giver.now in
-    let t = slot_at l.given g in
+    let t = slot_at l.i g in
     let given : c.give.new.receiver ≡ written_at (placement l.receiver (slot_entry t)) (slot_bytes (slot_entry t)) l.receiver =
     c.give.ensures ∙ ap (λ (x : List ℕ). written_at (placement l.receiver (slot_entry x)) x l.receiver) c.slot.ensures
     ∙ ap (λ (w : List ℕ). written_at (placement l.receiver (slot_entry t)) w l.receiver) sealed-slot in
-    (give_next (entries_of g) l.given _ (entry_at l.given g used-slot) _ _ given ∙ l.invariant.0, c.give.auto.receiver ∙ l.invariant.1)
-
-pub shape_of-receiver : goal.shape_of-receiver
-shape_of-receiver c = c.loop-given.invariant.1
+    give_next (entries_of g) l.i _ (entry_at l.i g used-slot) _ _ given ∙ l.invariant
 
 pub returns : goal.returns
 returns c =
     let g = c.args.giver.now in
-    give_end (entries_of g) c.loop-given.given _ _ (omega (arith, c.used_count-used.ensures.is, c.loop-given-test.false, used_is g))
-    c.loop-given.invariant.0
+    give_end (entries_of g) c.loop-i.i _ _ (omega (arith, c.used_count-i-end.ensures.is, c.loop-i-test.false, used_is g))
+    c.loop-i.invariant

@@ -1,16 +1,14 @@
-use borrow.Author.Tests.{not-true, not-false}
 use mathlib.Core.Path.{ap, ◌∙◌}
 use Rattle.image.specs.Image.{stamp_in}
 use Rattle.store.proofs.Overtaking.{not_held, held_stamp}
 use Rattle.store.proofs.is_overtaken.Goals as goal
 
-pub returns-then-not-place : goal.returns-then-not-place
-returns-then-not-place c =
+pub returns-in-Ok : goal.returns-in-Ok
+returns-in-Ok c =
     let a = c.args in
-    not_held a.store.now a.key.now _ _ c.seek-place.ensures a.stamp (not-true _ c.if-not-place.true)
+    held_stamp a.store.now a.key.now _ a.stamp c.in-Ok.ensures _ _ (c.slot_stamp.ensures ∙ ap stamp_in c.slot.ensures) c.is_below.ensures
 
-pub returns : goal.returns
-returns c =
+pub returns-in-Err : goal.returns-in-Err
+returns-in-Err c =
     let a = c.args in
-    held_stamp a.store.now a.key.now _ _ c.seek-place.ensures a.stamp (not-false _ c.if-not-place.false) _ _
-    (c.slot_stamp.ensures ∙ ap stamp_in c.slot.ensures) c.is_below.ensures
+    not_held a.store.now a.key.now _ a.stamp c.in-Err.ensures

@@ -6,7 +6,7 @@ use Rattle.store.proofs.lookup.Goals as goal
 pub returns-then-not-is_sound : goal.returns-then-not-is_sound
 returns-then-not-is_sound c =
     let a = c.args in
-    look_5 a.store.now a.key.now (sym c.is_sound.ensures ∙ c.if-not-is_sound.true)
+    look_5 a.store.now a.key.now _ c.is_sound.ensures c.if-not-is_sound.true
 
 pub returns : goal.returns
 returns c =

@@ -11,30 +11,26 @@ use Rattle.wire.specs.Order.{same_bytes}
 use Rattle.wire.proofs.Zeros.{zero_next, sum_zero}
 use Rattle.wire.proofs.block_is_zero.Goals as goal
 
-pub loop-i-init : goal.loop-i-init
+pub loop-b-init : goal.loop-b-init
 unfolding same_bytes zeros
-loop-i-init c = (refl, omega arith, omega arith)
-
-pub overflow_cast-sum : goal.overflow_cast-sum
-overflow_cast-sum c = omega (arith, c.type_inv.s c.loop-i.i)
+loop-b-init c = (refl, omega arith)
 
 pub overflow_add-sum : goal.overflow_add-sum
-overflow_add-sum c = omega (arith, c.type_inv.s c.loop-i.i)
+overflow_add-sum c = omega (arith, c.type_inv.s c.loop-b.b-index)
 
-pub loop-i-preserved : goal.loop-i-preserved
-loop-i-preserved c =
-    let l = c.loop-i in
+pub loop-b-preserved : goal.loop-b-preserved
+loop-b-preserved c =
+    let l = c.loop-b in
     let s = c.args.s.now in (
-      sum_zero l.sum (get_or s l.i 0) ∙ ap (λ (b : Bool). b && eqb (get_or s l.i 0) 0) l.invariant.0
-          ∙ sym (zero_next l.i s (omega arith)),
-      omega (arith, c.type_inv.s l.i),
-      omega arith,
+      sum_zero l.sum (get_or s l.b-index 0) ∙ ap (λ (b : Bool). b && eqb (get_or s l.b-index 0) 0) l.invariant.0
+          ∙ sym (zero_next l.b-index s (omega arith)),
+      omega (arith, c.type_inv.s l.b-index),
     )
 
 pub returns : goal.returns
 returns c =
-    let l = c.loop-i in
+    let l = c.loop-b in
     let s = c.args.s.now in
-    let e : l.i ≡ length s = omega arith in
+    let e : l.b-index ≡ length s = omega arith in
     l.invariant.0 ∙ ap (λ (n : ℕ). same_bytes (take n s) (zeros n)) e
     ∙ ap (λ (t : List ℕ). same_bytes t (zeros (length s))) (take_all (length s) s (omega arith))

@@ -1,27 +1,28 @@
-use borrow.Rule.Slice.PartMut.{post_of}
 use native.Mathlib.Omega.{arith}
-use mathlib.Core.Path.{◌≡◌, refl, sym, ap, ◌∙◌}
-use mathlib.Core.List.{◌++◌}
+use mathlib.Core.Path.{◌≡◌, refl, ap, ◌∙◌}
+use mathlib.Core.List.{List, ◌++◌}
 use Prim.Native.Nat.{ℕ, ◌+◌, ◌-◌}
-use lib.ListN.{length, take, drop}
+use lib.ListN.{length, take, drop, length-drop, length-append}
+use lib.Seq.{length-take-le}
 use Rattle.wire.specs.Fill.{zeros}
-use Rattle.wire.proofs.Fill.{length-zeros, padded_cut, padded_fits}
+use Rattle.wire.proofs.Fill.{length-zeros, padded_min}
 use Rattle.wire.proofs.Writing.{Written, write_next, written_all}
 use Rattle.wire.proofs.put_padded.Goals as goal
 
-pub returns-then-w-n : goal.returns-then-w-n
-returns-then-w-n c =
-    let a = c.args in
-    let z : length a.out.now - 0 ≡ length a.out.now = omega arith in
-    c.copy.ensures ∙ ap (λ (n : ℕ). take n a.s.now) z ∙ sym (padded_cut (length a.out.now) a.s.now (omega arith))
-
 pub returns : goal.returns
+unfolding zeros
 returns c =
-    let a = c.args in
-    let s = a.s.now in
-    let o = a.out.now in
-    let z : length s - 0 ≡ length s = omega arith in
-    let first : c.copy-2.new.out ++ post_of 0 (length s - 0) o ≡ s ++ drop (length s) o = rw (c.copy-2.ensures, z) in
-    let w1 : Written (length s) s o (c.copy-2.new.out ++ post_of 0 (length s - 0) o) = record { is = first; long = refl } in
-    let w2 = write_next zeros (length s) (length o - length s) s o _ _ (length-zeros _) (omega arith) w1 c.clear.ensures in
-    written_all (length s + (length o - length s)) _ o _ (omega arith) w2 ∙ sym (padded_fits (length o) s (omega arith))
+    let o = c.args.out.now in
+    let s = c.args.s.now in
+    let n = c.min-n.result in
+    let first = c.copy_from_slice.new.self in
+    let copied : first ≡ take n s = c.copy_from_slice.ensures.after in
+    let long : length first ≡ n = ap length copied ∙ length-take-le n s (omega arith) in
+    let whole : length (first ++ drop n o) ≡ length o = length-append first (drop n o) ∙ omega (arith, length-drop n o) in
+    let w1 : Written n first o (first ++ drop n o) = record { is = refl; long = long } in
+    let k = length (first ++ drop n o) - n in
+    let w2 = write_next zeros n k first o _ _ (length-zeros k) (omega arith) w1 (c.fill.ensures.after (λ y h. h)) in
+    written_all (n + k) _ o _ (omega arith) w2
+    ∙ ap (λ (p : List ℕ). p ++ zeros k) copied
+    ∙ ap (λ (l : ℕ). take n s ++ zeros (l - n)) whole
+    ∙ padded_min n (length o) s (omega arith)

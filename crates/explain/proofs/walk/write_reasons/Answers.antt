@@ -2,7 +2,7 @@ use native.Mathlib.Omega.{arith}
 use mathlib.Core.Path.{refl, ◌∙◌}
 use lib.ListN.{length-set}
 use Rattle.explain.specs.Walk.{entries_in}
-use Rattle.explain.proofs.Walking.{Step, most, stands_first, step, met_all, write_turn, write_done}
+use Rattle.explain.proofs.Walking.{most, stands_first, step, met_all, write_turn, write_done}
 use Rattle.explain.proofs.walk.write_reasons.Goals as goal
 
 pub loop-at-init : goal.loop-at-init
@@ -12,36 +12,29 @@ loop-at-init c =
 pub peek-seen-requires : goal.peek-seen-requires
 peek-seen-requires c = c.loop-at.invariant.0.within
 
-pub byte_of-requires : goal.byte_of-requires
-byte_of-requires c = (c.requires.3, c.peek-seen.ensures.1)
-
 pub bounds-reasons-place : goal.bounds-reasons-place
 bounds-reasons-place c =
-    let met : let l = c.loop-at in Step c.args.list.now c.args.key.now (entries_in c.args.list.now) l.at l.place c.peek-seen.result =
-    step c.loop-at.invariant.0 c.loop-at-test.true _ _ c.peek-seen.ensures.0 in
+    let met = step c.loop-at.invariant.0 c.loop-at-test.true c.args.key.now _ _ c.peek-seen.ensures.entry c.peek-seen.ensures.next.0 in
     omega (arith, met.more, c.requires.1, c.loop-at.invariant.1)
 
 pub overflow_add-place : goal.overflow_add-place
 overflow_add-place c =
-    let met : let l = c.loop-at in Step c.args.list.now c.args.key.now (entries_in c.args.list.now) l.at l.place c.peek-seen.result =
-    step c.loop-at.invariant.0 c.loop-at-test.true _ _ c.peek-seen.ensures.0 in
+    let met = step c.loop-at.invariant.0 c.loop-at-test.true c.args.key.now _ _ c.peek-seen.ensures.entry c.peek-seen.ensures.next.0 in
     omega (arith, met.more, most c.args.list.now c.requires.0)
 
 pub loop-at-smaller : goal.loop-at-smaller
 loop-at-smaller c =
-    let met : let l = c.loop-at in Step c.args.list.now c.args.key.now (entries_in c.args.list.now) l.at l.place c.peek-seen.result =
-    step c.loop-at.invariant.0 c.loop-at-test.true _ _ c.peek-seen.ensures.0 in
+    let met = step c.loop-at.invariant.0 c.loop-at-test.true c.args.key.now _ _ c.peek-seen.ensures.entry c.peek-seen.ensures.next.0 in
     omega (arith, met.farther, met.next.within)
 
 pub loop-at-preserved : goal.loop-at-preserved
 loop-at-preserved c =
-    let met : let l = c.loop-at in Step c.args.list.now c.args.key.now (entries_in c.args.list.now) l.at l.place c.peek-seen.result =
-    step c.loop-at.invariant.0 c.loop-at-test.true _ _ c.peek-seen.ensures.0 in
+    let met = step c.loop-at.invariant.0 c.loop-at-test.true c.args.key.now _ _ c.peek-seen.ensures.entry c.peek-seen.ensures.next.0 in
     let l = c.loop-at in (
       met.next,
       simp length-set l.invariant.1,
       write_turn c.args.key.now (entries_in c.args.list.now) c.args.reasons.now met c.requires.1 _ c.requires.2
-          _ c.byte_of.ensures _ l.invariant.2,
+          _ (c.from.ensures ∙ c.reason_at.ensures) _ l.invariant.2,
     )
 
 pub returns : goal.returns

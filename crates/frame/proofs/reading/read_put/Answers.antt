@@ -1,37 +1,35 @@
-use native.Mathlib.Omega.{arith}
-use mathlib.Core.Path.{◌≡◌, sym, ◌∙◌}
-use mathlib.Core.Bool.{true}
-use Prim.Native.Nat.{◌+◌}
-use lib.ListN.{length}
-use Rattle.frame.specs.Reading.{vlen, value_ends}
-use Rattle.frame.proofs.Answers.{ends_length, put_left_over, put_judged}
+use borrow.Author.Rules.{rules}
+use mathlib.Core.Path.{◌≡◌, sym, ap, ap₂, ◌∙◌}
+use mathlib.Core.List.{List}
+use Prim.Native.Nat.{ℕ}
+use Rattle.std.specs.Prelude.{Err}
+use Rattle.entry.specs.Key.{bad_key}
+use Rattle.frame.specs.declared.answer.Message.TheVariants.{Put}
+use Rattle.frame.specs.Message.{too_large}
+use Rattle.frame.specs.Reading.{said_as, judged_as, read_body}
+use Rattle.frame.proofs.Answers.{put_left_over, put_judged}
 use Rattle.frame.proofs.reading.read_put.Goals as goal
 
-pub returns-then-not-value_ends : goal.returns-then-not-value_ends
-returns-then-not-value_ends c = put_left_over _ _ c.key_length-key_len.ensures.0 (sym c.value_ends.ensures ∙ c.if-not-value_ends.true)
+pub returns-in_err-value : goal.returns-in_err-value
+returns-in_err-value c =
+    let v = c.in_err-value.ensures.is in
+    let e : Err c.in_err-value.field-0.0 ≡ read_body 1 c.args.frame.now = rw v.1 (put_left_over _ _ c.key_in-key.ensures.is v.0) in
+    search rules
 
-pub slice_bounds-value-count : goal.slice_bounds-value-count
-slice_bounds-value-count c =
-    let ends : value_ends (c.key_length-key_len.result + 5) c.args.frame.now ≡ true = sym c.value_ends.ensures ∙ c.if-not-value_ends.false in
-    let long : length c.args.frame.now ≡ c.key_length-key_len.result + 7 + vlen (c.key_length-key_len.result + 5) c.args.frame.now + 4 =
-    ends_length (c.key_length-key_len.result + 5) (c.key_length-key_len.result + 7) c.args.frame.now (omega arith) ends in
-    omega (arith, long)
-
-pub slice_bounds-value-start : goal.slice_bounds-value-start
-slice_bounds-value-start c =
-    let ends : value_ends (c.key_length-key_len.result + 5) c.args.frame.now ≡ true = sym c.value_ends.ensures ∙ c.if-not-value_ends.false in
-    let long : length c.args.frame.now ≡ c.key_length-key_len.result + 7 + vlen (c.key_length-key_len.result + 5) c.args.frame.now + 4 =
-    ends_length (c.key_length-key_len.result + 5) (c.key_length-key_len.result + 7) c.args.frame.now (omega arith) ends in
-    omega (arith, long)
-
-pub slice_bounds-judge-end : goal.slice_bounds-judge-end
-slice_bounds-judge-end c =
-    let ends : value_ends (c.key_length-key_len.result + 5) c.args.frame.now ≡ true = sym c.value_ends.ensures ∙ c.if-not-value_ends.false in
-    let long : length c.args.frame.now ≡ c.key_length-key_len.result + 7 + vlen (c.key_length-key_len.result + 5) c.args.frame.now + 4 =
-    ends_length (c.key_length-key_len.result + 5) (c.key_length-key_len.result + 7) c.args.frame.now (omega arith) ends in
-    omega (arith, long)
+pub returns-in_err-judge : goal.returns-in_err-judge
+returns-in_err-judge c =
+    let k = c.key_in-key.result in
+    let v = c.in_ok-value.value in
+    let w = c.in_ok-value.ensures.is in
+    let j = c.judge.ensures ∙ ap₂ (λ (a b : List ℕ). judged_as (bad_key a) (too_large b) (tt {0})) c.of.ensures c.of-2.ensures in
+    let e : Err c.in_err-judge.field-0.0 ≡ read_body 1 c.args.frame.now =
+    ap (said_as (λ u. Put k v)) (sym c.in_err-judge.was) ∙ put_judged _ _ c.key_in-key.ensures.is v w.0 w.1 _ j in
+    search rules
 
 pub returns : goal.returns
 returns c =
-    let ends : value_ends (c.key_length-key_len.result + 5) c.args.frame.now ≡ true = sym c.value_ends.ensures ∙ c.if-not-value_ends.false in
-    c.judge.ensures ∙ put_judged _ _ c.key_length-key_len.ensures.0 ends
+    let k = c.key_in-key.result in
+    let v = c.in_ok-value.value in
+    let w = c.in_ok-value.ensures.is in
+    let j = c.judge.ensures ∙ ap₂ (λ (a b : List ℕ). judged_as (bad_key a) (too_large b) (tt {0})) c.of.ensures c.of-2.ensures in
+    ap (said_as (λ u. Put k v)) (sym c.in_ok-judge.was) ∙ put_judged _ _ c.key_in-key.ensures.is v w.0 w.1 _ j

@@ -17,8 +17,8 @@ unfolding body
 returns c =
     let a = c.args in
     let out = a.out.now in
-    let k = a.key.now in
-    let v = a.value.now in
+    let k = a.entry.key.now in
+    let v = a.entry.value.now in
     let at = length k + 1 in
     let lk = length-counted 1 k in
     let lv = length-counted 2 v in
@@ -28,10 +28,10 @@ returns c =
     let n : length m3 ≡ length out = omega (arith, c.out-2-1.given, c.out-1.given) in
     let w1 = write_part (λ (i : ℕ). counted 1 k) 0 at at [] out out c.put_counted.new.out (omega arith) (omega arith) (omega arith) (written_none out)
     c.put_counted.ensures in
-    let w2 = write_part (λ (i : ℕ). be i a.flag) at 1 (at + 1) _ out m1 c.put_be.new.out refl (omega arith) (length-be 1 a.flag) w1
+    let w2 = write_part (λ (i : ℕ). be i a.entry.flag) at 1 (at + 1) _ out m1 c.put_be.new.out refl (omega arith) (length-be 1 a.entry.flag) w1
     c.put_be.ensures in
-    let w3 = write_part (λ (i : ℕ). stamp_bytes a.stamp) (at + 1) 9 (at + 10) _ out m2 c.put_stamp.new.out (omega arith) (omega arith)
-    (length_stamp a.stamp) w2 c.put_stamp.ensures in
+    let w3 = write_part (λ (i : ℕ). stamp_bytes a.entry.stamp) (at + 1) 9 (at + 10) _ out m2 c.put_stamp.new.out (omega arith) (omega arith)
+    (length_stamp a.entry.stamp) w2 c.put_stamp.ensures in
     let w4 = write_part (λ (i : ℕ). counted 2 v) (at + 10) (length v + 2) (length m3) _ out m3 c.put_counted-2.new.out (omega arith) (omega arith)
     (omega arith) w3 c.put_counted-2.ensures in
     written_all (length m3) _ out _ (omega arith) w4

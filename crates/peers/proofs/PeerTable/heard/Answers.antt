@@ -1,46 +1,23 @@
-use native.Mathlib.Omega.{arith}
-use mathlib.Core.Path.{◌≡◌, sym, ap, ◌∙◌}
-use Prim.Native.Nat.{◌<◌}
-use Rattle.entry.specs.Refusal.{number}
+use Rattle.std.proofs.Common.{◌∙◌}
+use Rattle.std.proofs.lemmas.Result.{err_from_is_err_and}
 use Rattle.peers.specs.Row.{heard_row}
 use Rattle.peers.specs.Table.{on_row}
-use Rattle.peers.specs.Event.{answer_number, with_rows, reported_answer, heard_answer, after_heard}
-use Rattle.entry.proofs.Numbers.{number_not_0}
-use Rattle.peers.proofs.Answers.{refused_gives, heard_is, peer_index, peer_in_array, row_gives}
+use Rattle.peers.specs.Event.{with_rows, heard_answer, after_heard}
+use Rattle.peers.proofs.Answers.{refused_gives, heard_is, row_gives}
 use Rattle.peers.proofs.PeerTable.heard.Goals as goal
 
-pub offset_bounds-self-at : goal.offset_bounds-self-at
-offset_bounds-self-at c =
-    let accepted : let a = c.args in 0 ≡ reported_answer a.id 0 a.incarnation a.now a.self = sym (ap answer_number c.in-Done.is) ∙ c.judge-answer.ensures in
-    let below-ten : c.index_from-at.result < 10 = let a = c.args in omega (arith, peer_in_array a.id 0 a.incarnation a.now a.self accepted) in
-    omega (arith, below-ten)
-
-pub bounds-self-at : goal.bounds-self-at
-bounds-self-at c =
-    let accepted : let a = c.args in 0 ≡ reported_answer a.id 0 a.incarnation a.now a.self = sym (ap answer_number c.in-Done.is) ∙ c.judge-answer.ensures in
-    let below-ten : c.index_from-at.result < 10 = let a = c.args in omega (arith, peer_in_array a.id 0 a.incarnation a.now a.self accepted) in
-    below-ten
-
-pub with_row-requires : goal.with_row-requires
-with_row-requires c =
-    let accepted : let a = c.args in 0 ≡ reported_answer a.id 0 a.incarnation a.now a.self = sym (ap answer_number c.in-Done.is) ∙ c.judge-answer.ensures in
-    let below-ten : c.index_from-at.result < 10 = let a = c.args in omega (arith, peer_in_array a.id 0 a.incarnation a.now a.self accepted) in
-    below-ten
-
-pub returns-in-Refused : goal.returns-in-Refused
+pub returns-in_err-at : goal.returns-in_err-at
 unfolding after_heard
-returns-in-Refused c =
+returns-in_err-at c =
     let a = c.args in
-    refused_gives c.refused.result a.self (with_rows (on_row a.id (heard_row a.incarnation a.now)) a.self) (number c.in-Refused.why)
-    (heard_answer a.id a.incarnation a.now a.self) c.refused.ensures (number_not_0 c.in-Refused.why)
-    (sym (ap answer_number c.in-Refused.is) ∙ c.judge-answer.ensures ∙ heard_is a.id a.incarnation a.now a.self)
+    let p = err_from_is_err_and c.from_residual.result c.from_residual.ensures.1 in
+    rw (p.1, p.2)
+    (refused_gives a.self (with_rows (on_row a.id (heard_row a.incarnation a.now)) a.self) _ (heard_answer a.id a.incarnation a.now a.self)
+    (c.in_err-at.ensures.told ∙ heard_is a.id a.incarnation a.now a.self))
 
-pub returns-in-Done : goal.returns-in-Done
+pub returns : goal.returns
 unfolding after_heard
-returns-in-Done c =
-    let accepted : let a = c.args in 0 ≡ reported_answer a.id 0 a.incarnation a.now a.self = sym (ap answer_number c.in-Done.is) ∙ c.judge-answer.ensures in
+returns c =
     let a = c.args in
-    row_gives c.done.result a.self c.with_row.result c.heard.result a.id c.index_from-at.result
-    (heard_answer a.id a.incarnation a.now a.self) (heard_row a.incarnation a.now)
-    c.done.ensures c.with_row.ensures c.heard.ensures (omega arith)
-    (omega (arith, peer_index a.id 0 a.incarnation a.now a.self accepted)) (accepted ∙ heard_is a.id a.incarnation a.now a.self)
+    row_gives a.self c.heard.result a.id _ (heard_answer a.id a.incarnation a.now a.self) (heard_row a.incarnation a.now) c.heard.ensures
+    c.in_ok-at.ensures.place (c.in_ok-at.ensures.told ∙ heard_is a.id a.incarnation a.now a.self)

@@ -1,20 +1,18 @@
-use borrow.Author.Rules.{rules}
-use mathlib.Core.Path.{sym, ◌∙◌}
-use native.Mathlib.Omega.{arith}
-use Rattle.ring.proofs.Scan.{ascending_next, ascending_stop, ascending_end}
+use Rattle.std.proofs.Common.{arith, ◌≡◌, ◌-◌, suc, sym}
+use Rattle.ring.proofs.Scan.{ascending_by_index, not_ascending, ascending_more}
 use Rattle.ring.proofs.checking.is_ascending.Goals as goal
+
+pub loop-i-init : goal.loop-i-init
+loop-i-init c = λ k h. absurd (omega arith)
 
 pub returns-then-ring-i : goal.returns-then-ring-i
 returns-then-ring-i c =
-    let l = c.loop-i in
-    let a = c.args in
-    sym (ascending_stop a.ring.now l.i (omega arith) c.if-ring-i.true) ∙ l.invariant.1
+    let i = c.loop-i.i in
+    let z : suc (i - 1) ≡ i = omega (arith, c.loop-i.auto.i) in
+    sym (not_ascending c.args.ring.now (i - 1) (rw z c.loop-i-test.true) (rw z c.if-ring-i.true))
 
 pub loop-i-preserved : goal.loop-i-preserved
-loop-i-preserved c =
-    let l = c.loop-i in
-    let a = c.args in
-    (search rules, sym (ascending_next a.ring.now l.i (omega arith) c.if-ring-i.false) ∙ l.invariant.1)
+loop-i-preserved c = ascending_more c.args.ring.now c.loop-i.i c.loop-i.auto.i c.loop-i.invariant c.if-ring-i.false
 
 pub returns : goal.returns
-returns c = sym (ascending_end c.args.ring.now c.loop-i.i c.loop-i-test.false) ∙ c.loop-i.invariant.1
+returns c = sym (ascending_by_index c.args.ring.now (λ k h. c.loop-i.invariant k (omega (arith, c.loop-i-test.false))))

@@ -1,11 +1,5 @@
-use mathlib.Core.Path.{◌≡◌}
-use Prim.Native.Nat.{◌≤◌, ◌-◌}
-use lib.ListN.{length, drop}
-use Rattle.ring.specs.Lists.{ascending}
+use Rattle.std.proofs.Common.{ℕ, suc, ◌<◌, get_or}
 use Rattle.ring.proofs.checking.is_ascending.Given as goal
 
 abbrev pub invariant-loop-i : goal.invariant-loop-i
-invariant-loop-i l = (l.i ≤ length l.ring) × (ascending (drop l.i l.ring) ≡ ascending l.ring)
-
-abbrev pub decreases-loop-i : goal.decreases-loop-i
-decreases-loop-i l = length l.ring - l.i
+invariant-loop-i l = (k : ℕ) → suc k < l.i → get_or l.ring k 0 < get_or l.ring (suc k) 0

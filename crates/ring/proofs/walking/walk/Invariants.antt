@@ -8,9 +8,6 @@ use Rattle.ring.proofs.Meeting.{gather}
 use Rattle.ring.proofs.walking.walk.Given as goal
 
 abbrev pub invariant-loop-j : goal.invariant-loop-j
-invariant-loop-j l = (l.j ≤ length l.ring) × (l.count ≤ l.r) × (length l.free ≡ 256) × (length l.nodes ≡ 3)
+invariant-loop-j l = (l.count ≤ l.r) × (length l.free ≡ 256) × (length l.nodes ≡ 3)
     × (take l.count l.nodes ++ gather (l.r - l.count) l.free (drop l.j (map node (turned l.start l.ring)))
     ≡ gather l.r l.initial.free (map node (turned l.start l.ring)))
-
-abbrev pub decreases-loop-j : goal.decreases-loop-j
-decreases-loop-j l = length l.ring - l.j

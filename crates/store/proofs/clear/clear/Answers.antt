@@ -1,4 +1,3 @@
-use Rattle.store.proofs.Ways.{told_left}
 use native.Mathlib.Omega.{arith}
 use mathlib.Core.Path.{◌≡◌, sym, ap, ◌∙◌}
 use mathlib.Core.List.{List}
@@ -6,7 +5,7 @@ use Prim.Native.Nat.{ℕ, ◌-◌}
 use Rattle.image.specs.Image.{slot_entry}
 use Rattle.image.specs.Slot.{slot_at}
 use Rattle.store.specs.Purge.{cleared}
-use Rattle.store.proofs.Purging.{clear_start, clear_few, clear_fits, clear_gone, clear_stays, clear_end}
+use Rattle.store.proofs.Purging.{clear_start, clear_few, clear_fits, clear_gone, clear_stays}
 use Rattle.store.proofs.clear.clear.Goals as goal
 
 pub loop-i-init : goal.loop-i-init
@@ -34,9 +33,3 @@ loop-i-preserved c =
     let judged : c.is_cleared.result ≡ cleared c.args.line (slot_entry (slot_at (c.loop-i.i - 1) c.loop-i.store)) = let line =
     c.args.line in c.is_cleared.ensures ∙ ap (λ (t : List ℕ). cleared line (slot_entry t)) c.slot.ensures in
     clear_stays c.loop-i.invariant c.requires c.loop-i-test.true (sym judged ∙ c.if-is_cleared.false)
-
-pub shape_of-store : goal.shape_of-store
-shape_of-store c = c.loop-i.invariant.long
-
-pub returns : goal.returns
-returns c = told_left (clear_end c.loop-i.invariant (omega (arith, c.loop-i-test.false)))
