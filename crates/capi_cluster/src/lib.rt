@@ -196,7 +196,8 @@ pub extern "C" fn sp_ring_is_sound(ring: &[u64]) -> u32
     flag(ring::is_sound(ring))
 }
 
-// 0 is HOME, 1 is STANDING, and another number no admission.
+// 0 is HOME, 1 is STANDING, and another number no admission. `Admission` is of
+// another crate, so this is no `TryFrom`.
 fn admission_of(number: u32) -> Option<Admission>
     ensures { MatchOption result (2 ≤ number) (λ a. (number < 2) × (a ≡ admission_of number)) }
 {

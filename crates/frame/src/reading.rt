@@ -68,7 +68,8 @@ fn value_in(frame: &[u8], at: usize) -> Result<Span, Refusal>
     Ok(Span { at: at + 2, len })
 }
 
-// Whether a flag is 0 or 1, and a tombstone has no value.
+// Whether a flag is 0 or 1, and a tombstone has no value. The stamp is not read yet, so there is no
+// `Entry` to ask.
 fn flag_holds(flag: u8, value: &[u8]) -> bool
     ensures { result ≡ not (bad_flag (entry_of [] value.now flag least)) }
 {

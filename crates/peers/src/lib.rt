@@ -270,7 +270,8 @@ impl PeerTable {
         Ok(self)
     }
 
-    // Another peer reported a peer's state.
+    // Another peer reported a peer's state. This and `heard` differ in one call: one function for
+    // both would take it as a closure with its clause, so it is no plainer.
     pub fn reported(
         mut self,
         id: u8,
