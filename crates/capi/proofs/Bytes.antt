@@ -12,7 +12,7 @@ use borrow.Author.Tests.{lt-ltb, leb-true}
 use Rattle.wire.proofs.Tests.{test}
 use Rattle.entry.specs.declared.Refusal.{Refusal}
 use Rattle.entry.specs.declared.Stamp.{Stamp}
-use Rattle.entry.specs.Acceptance.{refusal_number}
+use Rattle.entry.specs.Refusal.{refusal_number}
 use Rattle.entry.specs.Key.{bad_key}
 use Rattle.entry.specs.Entry.{entry_of, bad_time, bad_flag, refusal_of}
 use Rattle.frame.specs.Message.{Message, repl, err, message_refusal, time_fault, key_fault, value_fault, argument_fault}

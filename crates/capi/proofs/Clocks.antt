@@ -1,18 +1,18 @@
 -- When words are a clock, the clock's layout, and what a refusal leaves.
 use mathlib.Core.Path.{◌≡◌, refl, ap, ◌∙◌}
 use mathlib.Core.Logic.{inl, inr}
-use mathlib.Core.Bool.{true, false}
+use mathlib.Core.Bool.{true, false, ◌&&◌}
 use mathlib.Core.List.{List, [], ◌∷◌}
-use Prim.Native.Nat.{ℕ, ◌^◌}
+use Prim.Native.Nat.{ℕ, ◌^◌, ◌<◌}
 use Rattle.std.specs.Prelude.{Some, None, Result, Ok, Err}
 use native.Mathlib.Omega.{arith}
 use lib.ListN.{length, drop, drop_of_length-le}
-use borrow.Author.Tests.{lt-ltb, le-ltb, eqb-true}
-use Rattle.wire.proofs.Tests.{test, never}
-use Rattle.std.proofs.lemmas.Bool.Decides.{nat_tests}
+use lib.Dec.{ltb, eqb}
+use borrow.Author.Tests.{lt-ltb, le-ltb, ltb-true, eqb-true}
+use Rattle.wire.proofs.Tests.{test, never, and-true}
 use Rattle.entry.specs.declared.Refusal.{Refusal}
 use Rattle.entry.specs.declared.Stamp.{Stamp}
-use Rattle.entry.specs.Acceptance.{refusal_number}
+use Rattle.entry.specs.Refusal.{refusal_number}
 use Rattle.clock.specs.declared.Clock.{Clock}
 use Rattle.clock.specs.Clock.{Stepped, next, refused, fresh_clock, send_step, receive_step}
 use Rattle.clock.specs.Answer.{given, send_meaning, clock_after, step_refusal_of}
@@ -23,9 +23,25 @@ use Rattle.capi.specs.Clock.{step_refusal, step_words}
 use Rattle.capi.specs.Meaning.{ClockLayout, ClockWordsAre, StepKeeps, RefusedClock}
 use Rattle.capi_words.proofs.Fronts.{front_kept}
 
-clock_size : (w : List ℕ) → is_clock w ≡ true → length w ≡ 4
+-- what holds of a clock's words
+pub record ClockParts (w : List ℕ) : Type 0 where
+  pub size : length w ≡ 4
+  pub logical : word w 1 < 2 ^ 16
+  pub node : word w 2 < 2 ^ 8
+  pub skew : word w 3 < 2 ^ 32
+
+pub clock_parts : (w : List ℕ) → is_clock w ≡ true → ClockParts w
 unfolding is_clock
-clock_size w h = eqb-true (length w) 4 (grind (arith, nat_tests))
+clock_parts w h =
+    let a = and-true (eqb (length w) 4 && ltb (word w 1) (2 ^ 16) && ltb (word w 2) (2 ^ 8)) (ltb (word w 3) (2 ^ 32)) h in
+    let b = and-true (eqb (length w) 4 && ltb (word w 1) (2 ^ 16)) (ltb (word w 2) (2 ^ 8)) a.0 in
+    let d = and-true (eqb (length w) 4) (ltb (word w 1) (2 ^ 16)) b.0 in
+    record {
+      size = eqb-true (length w) 4 d.0;
+      logical = ltb-true (word w 1) (2 ^ 16) d.1;
+      node = ltb-true (word w 2) (2 ^ 8) b.1;
+      skew = ltb-true (word w 3) (2 ^ 32) a.1;
+    }
 
 four_words : (w : List ℕ) → length w ≡ 4 → word w 0 ∷ word w 1 ∷ word w 2 ∷ word w 3 ∷ [] ≡ w
 four_words [] h = absurd (omega arith)
@@ -37,7 +53,7 @@ four_words (a ∷ b ∷ c ∷ d ∷ e ∷ w) h = absurd (omega arith)
 
 pub clock_layout : ClockLayout
 unfolding clock_of
-clock_layout = record { back = λ c. refl; same = λ w h. four_words w (clock_size w h) }
+clock_layout = record { back = λ c. refl; same = λ w h. four_words w (clock_parts w h).size }
 
 pub clock_words_are : ClockWordsAre
 unfolding is_clock
@@ -56,7 +72,7 @@ module _ (w : List ℕ) where
   pub put_clock : (d : Clock) → is_clock w ≡ true → after_write 0 (clock_words d) w ≡ clock_words d
   unfolding write_refusal after_write
   put_clock d t =
-      let n = clock_size w t in
+      let n = (clock_parts w t).size in
       let end : drop 4 w ≡ [] = drop_of_length-le w {i = 4} (omega (arith, n)) in
       rw (le-ltb (length w) 4 (omega (arith, n)), end)
 

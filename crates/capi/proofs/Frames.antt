@@ -11,7 +11,7 @@ use lib.Dec.{ltb, eqb}
 use borrow.Author.Tests.{eqb-true}
 use Rattle.wire.proofs.Tests.{test}
 use Rattle.entry.specs.declared.Refusal.{Refusal}
-use Rattle.entry.specs.Acceptance.{refusal_number}
+use Rattle.entry.specs.Refusal.{refusal_number}
 use Rattle.frame.specs.Message.{Message, message_refusal}
 use Rattle.frame.specs.Layout.{frame_of}
 use Rattle.frame.specs.Writing.{answer_of, write_refusal, write_answer}

@@ -6,8 +6,7 @@ use mathlib.Core.Logic.{inl, inr}
 use Rattle.std.specs.Prelude.{Result, Ok, Err}
 use Rattle.wire.proofs.Tests.{test}
 use Rattle.entry.specs.declared.Refusal.{Refusal}
-use Rattle.entry.specs.Refusal.{last_number}
-use Rattle.entry.specs.Acceptance.{refusal_number}
+use Rattle.entry.specs.Refusal.{last_number, refusal_number}
 use Rattle.entry.proofs.Numbers.{number-range}
 use Rattle.node.proofs.Audit.{refusal_changes_nothing}
 use Rattle.node.proofs.Telling.{reply_at_most_600}

@@ -4,6 +4,7 @@ use mathlib.Core.Bool.{true}
 use mathlib.Core.List.{List}
 use mathlib.Core.Option.{some, some-injective}
 use Prim.Native.Nat.{ℕ}
+use lib.ListN.{length}
 use Rattle.std.specs.Prelude.{Result, Ok, Err}
 use Rattle.entry.specs.declared.Refusal.{Refusal}
 use Rattle.wire.specs.Fill.{field}
@@ -25,6 +26,12 @@ use Rattle.capi.specs.Store.{place_words, list_words}
 use Rattle.capi.specs.Meaning.{part_at, ValuePlace, EntryPlaces, FieldPlaces}
 
 -- ---- the value in a store
+pub two_words : (f : Finding) → length (place_words f) ≡ 2
+two_words (lookup.value at len) = refl
+two_words lookup.deleted = refl
+two_words lookup.never = refl
+two_words (lookup.refused n) = refl
+
 at_place : (s k : List ℕ) (f : Finding) → lookup_answer s k ≡ f → part_at 0 (place_words f) s ≡ value_part s k
 unfolding field
 at_place s k (lookup.value at len) e = (value_stands s k at len e).1

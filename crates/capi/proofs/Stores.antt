@@ -12,7 +12,7 @@ use Rattle.std.proofs.Math.Nat.{min-eq_left}
 use Rattle.wire.proofs.Tests.{test}
 use Rattle.entry.specs.declared.Refusal.{Refusal}
 use Rattle.entry.specs.declared.Refusal.TheVariants as refusal
-use Rattle.entry.specs.Acceptance.{refusal_number}
+use Rattle.entry.specs.Refusal.{refusal_number}
 use Rattle.entry.specs.Entry.{bad_time}
 use Rattle.image.specs.Layout.{most_slots}
 use Rattle.image.specs.Image.{slots_of, line_of, entries_of, sound}

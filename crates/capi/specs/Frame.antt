@@ -3,7 +3,7 @@ use Rattle.std.specs.Prelude.{ℕ, List, [], ◌∷◌, Result, Ok, Err}
 use Rattle.wire.specs.declared.Span.{Span}
 use Rattle.entry.specs.declared.EntryAt.{EntryAt}
 use Rattle.entry.specs.declared.Refusal.{Refusal}
-use Rattle.entry.specs.Acceptance.{refusal_number}
+use Rattle.entry.specs.Refusal.{refusal_number}
 use Rattle.frame.specs.declared.answer.Message.{Message as Located}
 use Rattle.frame.specs.declared.answer.Message.TheVariants.{Put, Get, Del, Repl, Ok as OkMessage, Value, NotFound, Err as ErrMessage}
 use Rattle.frame.specs.Message.{Message, message_refusal}

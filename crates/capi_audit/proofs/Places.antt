@@ -8,7 +8,7 @@ use lib.ListN.{length}
 use Rattle.wire.proofs.Tests.{never}
 use Rattle.entry.specs.declared.Refusal.{Refusal}
 use Rattle.entry.specs.declared.Refusal.TheVariants as refusal
-use Rattle.entry.specs.Acceptance.{refusal_number}
+use Rattle.entry.specs.Refusal.{refusal_number}
 use Rattle.entry.specs.Entry.{Entry}
 use Rattle.store.proofs.Listings.{nth_within}
 use Rattle.deliveries.specs.List.{deliveries_of, count_of, counted, count_answer}

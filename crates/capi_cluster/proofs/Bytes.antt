@@ -12,8 +12,7 @@ use Rattle.wire.proofs.Tests.{test}
 use Rattle.entry.specs.Entry.{bad_time}
 use Rattle.peers.specs.declared.PeerTable.{PeerTable}
 use Rattle.peers.specs.declared.Admission.{Admission}
-use Rattle.std.specs.Prelude.{Result}
-use Rattle.entry.specs.declared.Refusal.{Refusal}
+use Rattle.peers.specs.declared.Changed.{Changed}
 use Rattle.peers.specs.Event.{Gives, unless_refused, reported_answer, after_reported}
 use Rattle.ring.specs.Answer.{refuses}
 use Rattle.ring.specs.Build.{bad_arguments, build_answer, build_output}
@@ -34,10 +33,10 @@ module _ (i n now : ℕ) (t : PeerTable) where
     | inr p ↦ rw p
   ])
 
-  pub reported_gives : (s b : ℕ) (d : Result PeerTable Refusal) → b ≡ byte_of s → Gives d t (after_reported i b n now t) (reported_answer i b n now t)
-      → Gives d t (after_reported i s n now t) (reported_answer i s n now t)
+  pub reported_gives : (s b : ℕ) (d : Changed) → b ≡ byte_of s → Gives d (after_reported i b n now t) (reported_answer i b n now t)
+      → Gives d (after_reported i s n now t) (reported_answer i s n now t)
   reported_gives s b d e =
-      either (λ x. Gives d t (after_reported i x n now t) (reported_answer i x n now t) → Gives d t (after_reported i s n now t) (reported_answer i s n now t))
+      either (λ x. Gives d (after_reported i x n now t) (reported_answer i x n now t) → Gives d (after_reported i s n now t) (reported_answer i s n now t))
       s b e (λ g. g)
       (λ l g. record {
         table = g.table ∙ state_kept 255 (omega arith) ∙ sym (state_kept s (omega arith));

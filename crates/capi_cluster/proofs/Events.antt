@@ -1,5 +1,5 @@
 -- Events on the words of a table.
-use mathlib.Core.Path.{◌≡◌, refl, sym, ap, ◌∙◌}
+use mathlib.Core.Path.{◌≡◌, refl, ap, ◌∙◌}
 use mathlib.Core.Logic.{inl, inr}
 use mathlib.Core.Bool.{true, false}
 use mathlib.Core.List.{List, [], ◌++◌, append-nil}
@@ -9,13 +9,12 @@ use lib.ListN.{length, drop, drop_of_length-le}
 use lib.Dec.{leb}
 use Rattle.wire.proofs.Tests.{test}
 use Rattle.entry.specs.declared.Refusal.{Refusal}
-use Rattle.entry.specs.Refusal.{number}
-use Rattle.entry.specs.Acceptance.{refusal_number}
+use Rattle.entry.specs.Refusal.{number, refusal_number}
 use Rattle.entry.proofs.Numbers.{number_not_zero}
-use Rattle.std.specs.Prelude.{Result, Ok, Err, MatchResult}
 use Rattle.peers.specs.declared.PeerTable.{PeerTable}
+use Rattle.peers.specs.declared.Changed.{Changed}
 use Rattle.peers.specs.Table.{sound_table}
-use Rattle.peers.specs.Event.{Gives, table_after, empty_table, unless_refused, fresh_answer, fresh_table, after_fresh}
+use Rattle.peers.specs.Event.{Gives, unless_refused, fresh_answer, fresh_table, after_fresh}
 use Rattle.peers.specs.Event.{add_answer, after_add, heard_answer, after_heard}
 use Rattle.peers.specs.Event.{reported_answer, after_reported, tick_answer, after_tick}
 use Rattle.peers.specs.Meaning.{RefusalKeeps}
@@ -48,19 +47,16 @@ module _ (time : ℕ) (answer : PeerTable → ℕ) (after : PeerTable → PeerTa
     unfolding form_refusal
     is_form = elim (test (is_table w)) [ inl t ↦ t | inr t ↦ absurd (let x = rw (in_time, t) at pass in omega arith) ]
 
-    pub event_done : (t : PeerTable) (d : Result PeerTable Refusal) (out : List ℕ) → t ≡ table_of w → Gives d t (after t) (answer t)
-        → r ≡ packed (refusal_number d) 0 → MatchResult d (λ u. out ≡ table_words u ++ drop 61 w) (λ e. out ≡ w) → Notes time answer after w r out
+    pub event_done : (t : PeerTable) (d : Changed) (out : List ℕ) → t ≡ table_of w → Gives d (after t) (answer t) → r ≡ packed (refusal_number d.answer) 0
+        → out ≡ table_words d.table ++ drop 61 w → Notes time answer after w r out
     unfolding event_refusal event_words
-    event_done t d out te g re oe =
-        (rw (in_time, is_form, ← te) (re ∙ ap (λ (m : ℕ). packed m 0) g.answer), rw (in_time, is_form, ← te) (put d (g.table) oe))
+    event_done t d out te g re oe = (
+      rw (in_time, is_form, ← te) (re ∙ ap (λ (m : ℕ). packed m 0) g.answer),
+      rw (in_time, is_form, ← te) (oe ∙ rw end (append-nil (table_words d.table)) ∙ ap table_words g.table),
+    )
       where
         end : drop 61 w ≡ []
         end = drop_of_length-le w {i = 61} (omega (arith, (table_parts w is_form).size))
-
-        put : (d : Result PeerTable Refusal) → table_after t d ≡ after t → MatchResult d (λ u. out ≡ table_words u ++ drop 61 w) (λ e. out ≡ w)
-            → out ≡ table_words (after t)
-        put (Ok u) h o = o ∙ rw end (append-nil (table_words u)) ∙ ap table_words h
-        put (Err e) h o = o ∙ sym (table_layout.same w is_form) ∙ ap table_words (sym te ∙ h)
 
 -- ---- a fresh table
 -- it has 61 words
@@ -68,10 +64,9 @@ pub fresh_long : (i a p n now : ℕ) → fresh_answer now ≡ 0 → length (tabl
 unfolding table_words rows_words after_fresh unless_refused fresh_table
 fresh_long i a p n now z = rw z
 
-pub fresh-put : (i a p n now : ℕ) (lent after : List ℕ) (u : PeerTable) → Gives (Ok u) empty_table (after_fresh i a p n now) (fresh_answer now)
-    → 61 ≤ length lent → after ≡ table_words u ++ drop 61 lent → Puts (fresh_answer now) (table_words (after_fresh i a p n now)) lent 0 after
-fresh-put i a p n now lent after u g h e =
-    let z : fresh_answer now ≡ 0 = sym g.answer in
+pub fresh-put : (i a p n now : ℕ) (lent after : List ℕ) (f : Changed) → Gives f (after_fresh i a p n now) (fresh_answer now) → fresh_answer now ≡ 0
+    → 61 ≤ length lent → after ≡ table_words f.table ++ drop 61 lent → Puts (fresh_answer now) (table_words (after_fresh i a p n now)) lent 0 after
+fresh-put i a p n now lent after f g z h e =
     let l = fresh_long i a p n now z in
     front_put (fresh_answer now) (table_words (after_fresh i a p n now)) lent 0 after z (omega arith) refl
     (rw l (e ∙ ap (λ (t : PeerTable). table_words t ++ drop 61 lent) g.table))

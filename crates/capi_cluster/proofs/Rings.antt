@@ -13,8 +13,7 @@ use Rattle.wire.proofs.Tests.{test, or-false}
 use Rattle.peers.specs.declared.PeerTable.{PeerTable}
 use Rattle.peers.specs.declared.Admission.{Admission}
 use Rattle.entry.specs.declared.Refusal.{Refusal}
-use Rattle.entry.specs.Refusal.{number}
-use Rattle.entry.specs.Acceptance.{refusal_number}
+use Rattle.entry.specs.Refusal.{number, refusal_number}
 use Rattle.std.specs.Prelude.{Result, Ok, Err}
 use Rattle.ring.specs.Answer.{Answer, meaning}
 use Rattle.ring.specs.Lists.{distinct}

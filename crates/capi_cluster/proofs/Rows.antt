@@ -1,7 +1,7 @@
 -- The words of a peer table, row by row.
 use mathlib.Core.Path.{◌≡◌, refl, sym, ap, ◌∙◌}
 use mathlib.Core.Logic.{inl, inr}
-use mathlib.Core.Bool.{true, false, ◌&&◌, and-false, true≢false}
+use mathlib.Core.Bool.{true, false, ◌&&◌, true≢false}
 use mathlib.Core.List.Memᴰ.{append_left as left_in}
 use mathlib.Core.List.Memᴰ.{append_right as right-in}
 use mathlib.Core.List.Memᴰ.{head}
@@ -12,7 +12,7 @@ use native.Mathlib.Numerals.{add-one}
 use lib.ListN.{length, get_or, set, take, drop, length-append, length-drop, drop_of_length-le}
 use lib.Seq.{take-suc, take-suc-set, take_all, drop-cons, drop-set-lt}
 use lib.Dec.{ltb, eqb}
-use borrow.Author.Tests.{lt-ltb, eq-eqb, ltb-true, eqb-true, eqb-false}
+use borrow.Author.Tests.{lt-ltb, le-ltb, eq-eqb, ne_eqb, ltb-true, eqb-true, eqb-false}
 use borrow.Rule.Slice.PartMut.{put_mid}
 use Rattle.wire.proofs.Tests.{test, and-true}
 use Rattle.wire.proofs.Writing.{Written}
@@ -66,16 +66,26 @@ fit_at (suc n) k w h l = elim (test (eqb k n)) [
   | inr e ↦ fit_at n k w (and-true (row_fits n w) (rows_fit n w) h).1 (omega (arith, eqb-false k n e))
 ]
 
+pub unfit_rows : (w : List ℕ) (k : ℕ) → k < 10 → row_fits k w ≡ false → false ≡ rows_fit 10 w
+unfit_rows w k l e = elim (test (rows_fit 10 w)) [
+  | inl f ↦ absurd (true≢false (sym (fit_at 10 k w f l) ∙ e))
+  | inr f ↦ sym f
+]
+
+pub fit_all : (w : List ℕ) (k : ℕ) → 10 ≤ k → k ≤ 10 → rows_fit k w ≡ true → true ≡ rows_fit 10 w
+fit_all w k a b f = let i : k ≡ 10 = omega arith in sym (rw i at f)
+
 -- ---- a table
 module _ (w : List ℕ) where
-  pub unfit_table : (k : ℕ) → k < 10 → row_fits k w ≡ false → is_table w ≡ false
+  pub no_table_length : (length w ≡ 61 → ⊥) → false ≡ is_table w
   unfolding is_table
-  unfit_table k l e = elim (test (rows_fit 10 w)) [
-    | inl f ↦ absurd (true≢false (sym (fit_at 10 k w f l) ∙ e))
-    | inr f ↦ rw f (and-false (eqb (length w) 61 && ltb (word w 0) (2 ^ 8)))
-  ]
+  no_table_length h = rw (ne_eqb (length w) 61 h)
 
   module _ (n : length w ≡ 61) where
+    pub no_table_count : 256 ≤ word w 0 → false ≡ is_table w
+    unfolding is_table
+    no_table_count h = rw (eq-eqb (length w) 61 n, le-ltb (word w 0) (2 ^ 8) h)
+
     pub table_rows : word w 0 < 256 → rows_fit 10 w ≡ is_table w
     unfolding is_table
     table_rows h = rw (eq-eqb (length w) 61 n, lt-ltb (word w 0) (2 ^ 8) h)
@@ -99,18 +109,12 @@ pub read_next : (w : List ℕ) (rows : List Row) (k : ℕ) (r : Row) → k < len
 unfolding rows_of
 read_next w rows k r h e i = rw (add-one k, take-suc-set rows k r h, e, i)
 
-table_read : (w : List ℕ) (rows : List Row) (k : ℕ) → 10 ≤ k → k ≤ 10 → length rows ≡ 10 → take k rows ≡ rows_of k w
+pub table_read : (w : List ℕ) (rows : List Row) (k : ℕ) → 10 ≤ k → k ≤ 10 → length rows ≡ 10 → take k rows ≡ rows_of k w
     → record { rows = rows; count = word w 0 } ≡ table_of w
 unfolding table_of
 table_read w rows k a b n e =
     let i : k ≡ 10 = omega arith in
     rw (sym (take_all 10 rows (omega arith)) ∙ (rw i at e))
-
-pub table_done : (w : List ℕ) (rows : List Row) (k n : ℕ) → length w ≡ 61 → n ≡ word w 0 → word w 0 < 256 → 10 ≤ k → k ≤ 10 → length rows ≡ 10
-    → rows_fit k w ≡ true → take k rows ≡ rows_of k w → (is_table w ≡ true) × (record { rows = rows; count = n } ≡ table_of w)
-table_done w rows k n l q c a b m f e =
-    let i : k ≡ 10 = omega arith in
-    (sym (table_rows w l c) ∙ (rw i at f), rw q (table_read w rows k a b m e))
 
 -- ---- rows written one after the other
 rows_append : (r s : List Row) → rows_words (r ++ s) ≡ rows_words r ++ rows_words s
@@ -211,3 +215,15 @@ table_words_are t r =
     let n : length w ≡ 61 = omega (arith, length-rows t.rows, r.ten) in
     let each : (x : Row) → Memᴰ x (rows_of 10 w) → RowInRange x = rw (ten_rows t.count t.rows r.ten) r.each in
     sym (table_rows w n r.count) ∙ rows_in_range_lem 10 w each
+
+-- ---- six places, each set
+pub six_set : (l : List ℕ) (a b c d e f : ℕ) → length l ≡ 6 → set (set (set (set (set (set l 0 a) 1 b) 2 c) 3 d) 4 e) 5 f
+    ≡ a ∷ b ∷ c ∷ d ∷ e ∷ f ∷ []
+six_set (x0 ∷ x1 ∷ x2 ∷ x3 ∷ x4 ∷ x5 ∷ []) a b c d e f h = refl
+six_set (x0 ∷ x1 ∷ x2 ∷ x3 ∷ x4 ∷ x5 ∷ x6 ∷ l) a b c d e f h = absurd (omega (arith, h))
+six_set (x0 ∷ x1 ∷ x2 ∷ x3 ∷ x4 ∷ []) a b c d e f h = absurd (omega (arith, h))
+six_set (x0 ∷ x1 ∷ x2 ∷ x3 ∷ []) a b c d e f h = absurd (omega (arith, h))
+six_set (x0 ∷ x1 ∷ x2 ∷ []) a b c d e f h = absurd (omega (arith, h))
+six_set (x0 ∷ x1 ∷ []) a b c d e f h = absurd (omega (arith, h))
+six_set (x0 ∷ []) a b c d e f h = absurd (omega (arith, h))
+six_set [] a b c d e f h = absurd (omega (arith, h))

@@ -1,9 +1,9 @@
 -- The events of a peer table on 61 words.
-use Rattle.std.specs.Prelude.{ℕ, ◌≡◌, Bool, Result, cond, ◌&&◌, List}
+use Rattle.std.specs.Prelude.{ℕ, ◌≡◌, Bool, cond, ◌&&◌, List}
 use Rattle.entry.specs.Entry.{bad_time}
 use Rattle.peers.specs.declared.PeerTable.{PeerTable}
+use Rattle.peers.specs.declared.Changed.{Changed}
 use Rattle.peers.specs.Event.{Gives}
-use Rattle.entry.specs.declared.Refusal.{Refusal}
 use Rattle.peers.specs.Table.{sound_table}
 use Rattle.capi_words.specs.Result.{packed}
 use Rattle.capi_cluster.specs.Words.{is_table, table_of, table_words}
@@ -20,9 +20,9 @@ event_refusal time answer w = cond (bad_time time) 9 (cond (is_table w) (answer 
 unfoldable pub event_words : ℕ → (PeerTable → PeerTable) → List ℕ → List ℕ
 event_words time after w = cond (bad_time time) w (cond (is_table w) (table_words (after (table_of w))) w)
 
--- each result of a change of a table gives this answer, and this table after it
-abbrev pub ChangesBy : (PeerTable → Result PeerTable Refusal → Type 0) → (PeerTable → ℕ) → (PeerTable → PeerTable) → Type 0
-ChangesBy change answer after = (t : PeerTable) (d : Result PeerTable Refusal) → change t d → Gives d t (after t) (answer t)
+-- whatever a change of a table hands back is this table, with this answer
+abbrev pub ChangesBy : (PeerTable → Changed → Type 0) → (PeerTable → ℕ) → (PeerTable → PeerTable) → Type 0
+ChangesBy change answer after = (t : PeerTable) (d : Changed) → change t d → Gives d (after t) (answer t)
 
 -- what an event tells of words w and leaves of them (R170, R245)
 abbrev pub Notes : ℕ → (PeerTable → ℕ) → (PeerTable → PeerTable) → List ℕ → ℕ → List ℕ → Type 0

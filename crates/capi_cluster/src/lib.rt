@@ -6,7 +6,7 @@ mod words;
 
 ghost use Rattle.std.specs.Prelude.{◌≡◌, ℕ, [], ◌∷◌, ◌<◌, ◌≤◌, MatchOption, IfOk};
 ghost use Rattle.peers.specs.declared.PeerTable.{PeerTable};
-ghost use Rattle.entry.specs.Acceptance.{refusal_number};
+ghost use Rattle.entry.specs.Refusal.{refusal_number};
 ghost use Rattle.peers.specs.Event.{fresh_answer, after_fresh, add_answer, after_add, heard_answer, after_heard, reported_answer, after_reported, tick_answer, after_tick};
 ghost use Rattle.ring.specs.Place.{token_of, position_answer};
 ghost use Rattle.ring.specs.Build.{build_answer, build_output};
@@ -19,8 +19,8 @@ ghost use Rattle.capi_cluster.specs.Ring.{refusal_in, given_in, answer_word, adm
 
 use capi_words::{byte_of, counted, done, flag, refused};
 use entry::{Refusal, TIME_LIMIT};
-use peers::{Admission, PeerTable};
-use words::{TABLE_WORDS, put_table, table_of};
+use peers::{Admission, Changed, PeerTable};
+use words::{TABLE_WORDS, is_table, put_table, read_table, table_of};
 
 // ---- The peer table
 
@@ -36,26 +36,19 @@ fn table_at(time: u64, table: &[u64]) -> Result<PeerTable, Refusal>
     table_of(table).ok_or(Refusal::BadArgument)
 }
 
-// An event on the table that words stand for: `change` makes of it the table after, or refuses. A
-// refusal leaves the words as they came.
-fn event<F: FnOnce(PeerTable) -> Result<PeerTable, Refusal>>(
-    time: u64,
-    words: &mut [u64],
-    change: F,
-) -> u32
+// An event on the table that words stand for: `change` hands back the table after it, which is the
+// one that came in if the event is refused.
+fn event<F: FnOnce(PeerTable) -> Changed>(time: u64, words: &mut [u64], change: F) -> u32
     requires { F.IsAlwaysCallable change }
     ensures { (answer : PeerTable → ℕ) (after : PeerTable → PeerTable) → ChangesBy (F.post change) answer after → Notes time answer after words.old result words.new }
 {
-    let peers = match table_at(time, words) {
-        Ok(peers) => peers,
-        Err(why) => return refused(why),
-    };
-    match change(peers) {
-        Ok(changed) => {
-            put_table(changed, words);
-            0
-        }
+    match table_at(time, words) {
         Err(why) => refused(why),
+        Ok(peers) => {
+            let changed = change(peers);
+            put_table(changed.table, words);
+            done(changed.answer)
+        }
     }
 }
 
@@ -72,13 +65,14 @@ pub extern "C" fn sp_peers_fresh(
     ensures told { result ≡ packed (write_refusal (fresh_answer time) (table_words (after_fresh id address port incarnation time)) table.old) 0 }
     ensures left { table.new ≡ after_write (fresh_answer time) (table_words (after_fresh id address port incarnation time)) table.old }
 {
-    match PeerTable::fresh(id, address, port, incarnation, time) {
+    let made = PeerTable::fresh(id, address, port, incarnation, time);
+    match made.answer {
         Err(why) => refused(why),
-        Ok(fresh) => {
+        Ok(()) => {
             if table.len() < TABLE_WORDS {
                 return refused(Refusal::NoRoom);
             }
-            put_table(fresh, table);
+            put_table(made.table, table);
             0
         }
     }
@@ -146,10 +140,10 @@ pub extern "C" fn sp_peers_tick(time: u64, table: &mut [u64]) -> u32
 pub extern "C" fn sp_peers_is_sound(table: &[u64]) -> u32
     ensures { result ≡ flag_of (sound_words table.now) }
 {
-    match table_of(table) {
-        Some(peers) => flag(peers.is_sound()),
-        None => 0,
+    if !is_table(table) {
+        return 0;
     }
+    flag(read_table(table).is_sound())
 }
 
 // ---- The ring

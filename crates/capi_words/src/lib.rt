@@ -3,13 +3,15 @@
 #![tactic(auto)]
 
 ghost use Rattle.std.specs.Prelude.{◌≡◌};
-ghost use Rattle.entry.specs.Acceptance.{refusal_number};
-ghost use Rattle.entry.specs.Refusal.{number};
+ghost use Rattle.entry.specs.Refusal.{refusal_number, number};
 ghost use Rattle.frame.specs.Writing.{write_refusal, after_write};
 ghost use Rattle.capi_words.specs.Result.{packed, count_in, flag as flag_of};
 ghost use Rattle.capi_words.specs.Words.{byte_of};
 
 use entry::Refusal;
+
+// The words of 8 bits are below this.
+pub const BYTE_LIMIT: u64 = 256;
 
 // The most that the lower 16 bits of a result count.
 const MAX_COUNT: usize = 65_535;

@@ -1,7 +1,6 @@
 -- What the answers of a send and of a receive mean.
 use Rattle.std.specs.Prelude.{ℕ, ◌≡◌, Result, Ok, Err}
-use Rattle.entry.specs.Refusal.{number}
-use Rattle.entry.specs.Acceptance.{refusal_number}
+use Rattle.entry.specs.Refusal.{number, refusal_number}
 use Rattle.entry.specs.declared.Refusal.{Refusal}
 use Rattle.entry.specs.declared.Stamp.{Stamp}
 use Rattle.clock.specs.declared.Clock.{Clock}

@@ -2,5 +2,4 @@ pub mod Refusal
 pub mod Key
 pub mod Order
 pub mod Entry
-pub mod Acceptance
 pub mod Meaning

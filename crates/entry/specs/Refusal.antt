@@ -1,5 +1,5 @@
 -- The refusal numbers. The rules' SELF is `OwnPeer` here.
-use Rattle.std.specs.Prelude.{ℕ, ◌≡◌}
+use Rattle.std.specs.Prelude.{ℕ, ◌≡◌, Result, Ok, Err}
 use Rattle.entry.specs.declared.Refusal.{Refusal}
 use Rattle.entry.specs.declared.Refusal.TheVariants as refusal
 
@@ -32,3 +32,9 @@ last_number = 35
 -- a number that a refusal has: there are gaps between them (R7, R168)
 abbrev pub Numbered : ℕ → Type 0
 Numbered n = (r : Refusal) × (number r ≡ n)
+
+-- what a result means that has no more to say than whether something was done: the number of the
+-- refusal, or 0 if there is none (R199)
+abbrev pub refusal_number : {A : Type 0} → Result A Refusal → ℕ
+refusal_number (Ok a) = 0
+refusal_number (Err r) = number r

@@ -3,11 +3,10 @@
 #![tactic(auto)]
 
 ghost use Rattle.std.specs.Prelude.{◌≡◌, not, List, ℕ};
-ghost use Rattle.entry.specs.Refusal.{number};
+ghost use Rattle.entry.specs.Refusal.{number, refusal_number};
 ghost use Rattle.entry.specs.Key.{reserved, bad_key};
 ghost use Rattle.entry.specs.Order.{least, stamp_below};
 ghost use Rattle.entry.specs.Entry.{entry_of, entry_in, refusal_of, beats};
-ghost use Rattle.entry.specs.Acceptance.{refusal_number};
 ghost use Rattle.wire.specs.Fill.{field};
 
 use std::error::Error;
@@ -156,8 +155,9 @@ pub fn is_acceptable_key(key: &[u8]) -> bool
 pub struct Entry<'a> {
     pub key: &'a [u8],
     pub value: &'a [u8],
-    pub flag: u8,
     pub stamp: Stamp,
+    // last, so that what is copied with an entry is whole words up to it
+    pub flag: u8,
 }
 
 impl Entry<'_> {
@@ -210,8 +210,8 @@ impl Entry<'_> {
 pub struct EntryAt {
     pub key: Span,
     pub value: Span,
-    pub flag: u8,
     pub stamp: Stamp,
+    pub flag: u8,
 }
 
 impl EntryAt {

@@ -1,26 +1,24 @@
 -- One delivery: what is seen of it, whether it is the best so far, and its byte.
 use Prim.Native.Nat.{ℕ, ◌+◌, ◌-◌, ◌≤◌}
 use native.Mathlib.Omega.{arith}
-use mathlib.Core.Path.{◌≡◌, refl, sym, ap, ◌∙◌}
+use mathlib.Core.Path.{◌≡◌, sym, ap, ◌∙◌}
 use mathlib.Core.Bool.{Bool, true, false, cond}
-use mathlib.Core.List.{List}
+use mathlib.Core.List.{List, []}
 use lib.ListN.{length, take, drop, length-drop}
 use borrow.Author.Tests.{eq-eqb, ne_eqb}
 use Rattle.std.specs.Prelude.{Option, None, Some}
-use Rattle.std.specs.Bool.{then_some}
 use Rattle.wire.specs.Order.{same_bytes}
 use Rattle.wire.proofs.Fields.{rest}
 use Rattle.entry.specs.declared.Stamp.{Stamp}
-use Rattle.entry.specs.declared.Entry.{Entry as Lent}
-use Rattle.entry.specs.Entry.{Entry, entry_of, entry_in, content_below, beats}
-use Rattle.entry.proofs.EntryOrder.{at_equal}
+use Rattle.entry.specs.Entry.{Entry, entry_of, content_below, beats}
+use Rattle.entry.proofs.EntryOrder.{at_equal, content_keys}
 use Rattle.frame.specs.Reading.{part}
 use Rattle.deliveries.specs.declared.Delivery.{Delivery}
 use Rattle.deliveries.specs.Cut.{cut_unchecked}
 use Rattle.deliveries.proofs.Cutting.{unchecked_within}
 use Rattle.explain.specs.Winner.{is_of}
 use Rattle.explain.specs.Reason.{earlier_time, lower_count, lower_node, lower_content, same_entry, reason}
-use Rattle.explain.specs.Walk.{lent, seen, behind}
+use Rattle.explain.specs.Walk.{seen, behind}
 
 -- ---- the reason
 same_stamp : (s t : Stamp) → s.phys ≡ t.phys → s.logical ≡ t.logical → s.node ≡ t.node → s ≡ t
@@ -68,11 +66,12 @@ module _ (w d : Entry) where
               sym won_by_content ∙ b,
             )
 
--- ---- what is seen
-lent_then : (b : Bool) (l : Lent) → lent (then_some b l) ≡ cond b (Some (entry_in l)) None
-lent_then true l = refl
-lent_then false l = refl
+-- the keys have no say in it
+pub reason_keys : (w d : Entry) → reason (entry_of [] w.value w.flag w.stamp) (entry_of [] d.value d.flag d.stamp) ≡ reason w d
+unfolding reason
+reason_keys w d = rw (content_keys [] [] d w)
 
+-- ---- what is seen
 module _ (list : List ℕ) (at : ℕ) (k : List ℕ) (x : Option Delivery) (c : x ≡ cut_unchecked (take (length list - at) (drop at list))) where
   cut_there : x ≡ cut_unchecked (drop at list)
   cut_there = c ∙ ap cut_unchecked (rest at list)
@@ -112,5 +111,8 @@ module _ (list : List ℕ) (at : ℕ) (k : List ℕ) (x : Option Delivery) (c : 
       unfolding seen is_of
       seen_as = rw (delivery_there, s, q, rest at list)
 
-      pub seen_delivery : (l : Lent) → entry_in l ≡ e → lent (then_some b l) ≡ seen list at k
-      seen_delivery l z = lent_then b l ∙ ap (λ (y : Entry). cond b (Some y) None) z ∙ seen_as
+      pub seen_delivery : b ≡ true → Some e ≡ seen list at k
+      seen_delivery t = rw t at seen_as
+
+      pub seen_other : b ≡ false → None ≡ seen list at k
+      seen_other t = rw t at seen_as

@@ -27,6 +27,7 @@ other_key = 5
 abbrev pub lower_content : ℕ
 lower_content = 6
 
+-- the byte of each reason (R199, R250)
 abbrev pub byte : Reason → ℕ
 byte why.Won = won
 byte why.EarlierTime = earlier_time

@@ -58,10 +58,14 @@ pub(crate) fn peek<'a>(list: &'a [u8], at: usize, key: &[u8]) -> Seen<'a>
             next: list.len(),
         };
     };
+    let next = at + front.end;
     let entry = front.entry.of(rest);
+    if !same(key, entry.key) {
+        return Seen { entry: None, next };
+    }
     Seen {
-        entry: same(key, entry.key).then_some(entry),
-        next: at + front.end,
+        entry: Some(entry),
+        next,
     }
 }
 

@@ -16,7 +16,7 @@ use Rattle.wire.proofs.Tests.{test, or-false}
 use Rattle.std.specs.Prelude.{Result, Ok, Err, IfOk}
 use Rattle.entry.specs.declared.Refusal.{Refusal}
 use Rattle.entry.specs.declared.Stamp.{Stamp}
-use Rattle.entry.specs.Acceptance.{refusal_number}
+use Rattle.entry.specs.Refusal.{refusal_number}
 use Rattle.entry.specs.Key.{bad_key}
 use Rattle.entry.specs.Order.{least}
 use Rattle.entry.specs.Entry.{Entry, entry_of, bad_flag, refusal_of}

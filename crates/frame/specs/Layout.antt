@@ -35,7 +35,7 @@ value_bytes v = counted 2 v
 unfoldable pub stamp_bytes : Stamp → List ℕ
 stamp_bytes s = be 6 s.phys ++ be 2 s.logical ++ be 1 s.node
 
--- TYPE of each kind of message (R53 to R60)
+-- TYPE of each kind of message (R53 to R60, R199)
 abbrev pub number_of : Kind → ℕ
 number_of kind.Put = 1
 number_of kind.Get = 2

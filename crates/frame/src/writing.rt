@@ -2,7 +2,7 @@
 ghost use Rattle.std.specs.Prelude.{◌≡◌, [], ◌+◌, ◌≤◌, ◌<◌, length, IfOk};
 ghost use Rattle.entry.specs.Order.{least};
 ghost use Rattle.entry.specs.Entry.{entry_of, entry_in, refusal_of};
-ghost use Rattle.entry.specs.Acceptance.{refusal_number};
+ghost use Rattle.entry.specs.Refusal.{refusal_number};
 ghost use Rattle.frame.specs.Message.{put, repl};
 ghost use Rattle.frame.specs.Layout.{max_body, counted, key_bytes, stamp_bytes, number_of, body, envelope};
 ghost use Rattle.frame.specs.Writing.{WritesFrame, Sealed};

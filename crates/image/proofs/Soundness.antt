@@ -20,8 +20,7 @@ use Rattle.wire.proofs.Order.{same_bytes_eq, same_bytes_refl}
 use Rattle.entry.specs.declared.Refusal.{Refusal}
 use Rattle.std.specs.Prelude.{Result, Ok, Err}
 use Rattle.std.specs.Result.{is_err}
-use Rattle.entry.specs.Refusal.{number}
-use Rattle.entry.specs.Acceptance.{refusal_number}
+use Rattle.entry.specs.Refusal.{number, refusal_number}
 use Rattle.entry.specs.Order.{key_below}
 use Rattle.entry.specs.Entry.{Entry, refusal_of}
 use Rattle.entry.proofs.Numbers.{number-range}

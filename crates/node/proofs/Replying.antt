@@ -11,8 +11,7 @@ use Rattle.wire.specs.Fill.{field}
 use Rattle.wire.proofs.Fields.{num_byte}
 use Rattle.std.specs.Prelude.{Result, Ok}
 use Rattle.std.specs.Result.{result_unwrap_or}
-use Rattle.entry.specs.Acceptance.{refusal_number}
-use Rattle.entry.specs.Refusal.{number}
+use Rattle.entry.specs.Refusal.{refusal_number, number}
 use Rattle.entry.specs.declared.Refusal.{Refusal}
 use Rattle.entry.proofs.Numbers.{number-range}
 use Rattle.clock.specs.declared.Clock.{Clock}

@@ -1,6 +1,6 @@
 -- What the answer of the handler means.
 use Rattle.std.specs.Prelude.{ℕ, ◌≡◌, List}
-use Rattle.entry.specs.Acceptance.{refusal_number}
+use Rattle.entry.specs.Refusal.{refusal_number}
 use Rattle.clock.specs.declared.Clock.{Clock}
 use Rattle.node.specs.declared.Handled.{Handled}
 use Rattle.node.specs.Handler.{Result, handled}

@@ -1,8 +1,7 @@
 -- What the parts of the handler owe each other.
 use Rattle.std.specs.Prelude.{ℕ, ◌≤◌, ◌≡◌, true, List, length, Result, Ok, Err}
 use Rattle.entry.specs.declared.Refusal.{Refusal}
-use Rattle.entry.specs.Refusal.{number}
-use Rattle.entry.specs.Acceptance.{refusal_number}
+use Rattle.entry.specs.Refusal.{number, refusal_number}
 use Rattle.clock.specs.declared.Clock.{Clock}
 use Rattle.frame.specs.Message.{Message, ok, err}
 use Rattle.frame.specs.Layout.{max_frame, frame_of}

@@ -9,26 +9,27 @@ use lib.ListN.{length, get_or, set, drop, take-append-drop}
 use lib.Seq.{set-append_left}
 use lib.Dec.{eqb, ltb, leb}
 use borrow.Author.Tests.{lt-ltb, le-ltb, ltb-false, lt-leb, leb-false, not-false}
-use Rattle.std.specs.Prelude.{Ok, Err, Some, None, position}
+use Rattle.std.specs.Prelude.{Some, None, position}
 use Rattle.entry.specs.declared.Refusal.{Refusal}
 use Rattle.entry.specs.Refusal.{number}
 use Rattle.entry.proofs.Numbers.{number_not_0}
 use Rattle.peers.specs.declared.Row.{Row}
 use Rattle.peers.specs.declared.PeerTable.{PeerTable}
+use Rattle.peers.specs.declared.Changed.{Changed}
 use Rattle.peers.specs.Table.{rows_of, has_row, held_incarnation, on_row, is_own, sound_table, own_alive}
 use Rattle.peers.specs.Event.{Gives, unless_refused, no_row, with_rows, fresh_answer, add_answer, row_answer, heard_answer, reported_answer, tick_answer}
 use Rattle.wire.proofs.Tests.{cases, or-false}
 use Rattle.peers.proofs.Scan.{index_of, found, not_found_lem, row_at_lem, place_found, place_none}
 use Rattle.peers.proofs.Sound.{sound_parts}
 
--- a refusal leaves the table that came in, and a success gives the changed one
-pub refused_gives : (t u : PeerTable) (r : Refusal) (m : ℕ) → number r ≡ m → Gives (Err r) t (unless_refused m t u) m
+-- a refusal hands back the table that came in, and a success the changed one
+pub refused_gives : (c : Changed) (t u : PeerTable) (r : Refusal) (m : ℕ) → Gives c t (number r) → number r ≡ m → Gives c (unless_refused m t u) m
 unfolding unless_refused
-refused_gives t u r m e = record { table = rw (← e, number_not_0 r); answer = e }
+refused_gives c t u r m g e = record { table = g.table ∙ rw (← e, number_not_0 r); answer = g.answer ∙ e }
 
-pub done_gives : (t u v : PeerTable) (m : ℕ) → v ≡ u → 0 ≡ m → Gives (Ok v) t (unless_refused m t u) m
+pub done_gives : (c : Changed) (t u v : PeerTable) (m : ℕ) → Gives c v 0 → v ≡ u → 0 ≡ m → Gives c (unless_refused m t u) m
 unfolding unless_refused
-done_gives t u v m e z = record { table = rw (← z) e; answer = z }
+done_gives c t u v m g e z = record { table = g.table ∙ rw (← z) e; answer = g.answer ∙ z }
 
 -- ---- an event about a row
 own_first : (i : ℕ) (rows : List Row) → own_alive rows ≡ true → index_of i rows ≡ 0 → is_own i rows ≡ true
@@ -177,9 +178,9 @@ unfolding reported_answer heard_answer
 heard_is i n now t = refl
 
 -- an event that takes the row of an id to another
-pub row_gives : (t : PeerTable) (r : Row) (i k m : ℕ) (f : Row → Row) → r ≡ f (get_or t.rows k no_row)
-    → Some k ≡ position (λ (r : Row). eqb r.id i) (rows_of t) → 0 ≡ m
-    → Gives (Ok (record { rows = set t.rows k r; count = t.count })) t (unless_refused m t (with_rows (on_row i f) t)) m
-row_gives t r i k m f d e z =
+pub row_gives : (c : Changed) (t : PeerTable) (r : Row) (i k m : ℕ) (f : Row → Row) → Gives c (record { rows = set t.rows k r; count = t.count }) 0
+    → r ≡ f (get_or t.rows k no_row) → Some k ≡ position (λ (r : Row). eqb r.id i) (rows_of t) → 0 ≡ m
+    → Gives c (unless_refused m t (with_rows (on_row i f) t)) m
+row_gives c t r i k m f g d e z =
     let at = place_found i (rows_of t) k e in
-    done_gives t (with_rows (on_row i f) t) _ m (rw d (row-changed i k f t at.0 at.1)) z
+    done_gives c t (with_rows (on_row i f) t) _ m g (rw d (row-changed i k f t at.0 at.1)) z

@@ -44,6 +44,9 @@ not_found_lem i (r ∷ rows) h =
     (λ p. rw p (not_found_lem i rows (let h' : suc (length rows) ≤ suc (index_of i rows) = rw p at h in omega arith)))
 
 -- the number of rows
+pub all_ten : (t : PeerTable) → length t.rows ≡ 10 → 10 < t.count → 10 ≡ length (rows_of t)
+all_ten t e h = omega (arith, length-take t.count t.rows)
+
 pub as_counted : (t : PeerTable) → length t.rows ≡ 10 → t.count ≤ 10 → t.count ≡ length (rows_of t)
 as_counted t e h = omega (arith, length-take t.count t.rows)
 

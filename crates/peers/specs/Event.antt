@@ -1,22 +1,17 @@
 -- The answer of each event and the table after it.
-use Rattle.std.specs.Prelude.{ℕ, ◌+◌, ◌≡◌, cond, not, ◌||◌, Result, Ok, Err, List, ◌∷◌, ◌++◌, drop, set, replicate, ltb, leb, eqb}
-use Rattle.entry.specs.declared.Refusal.{Refusal}
-use Rattle.entry.specs.Acceptance.{refusal_number}
+use Rattle.std.specs.Prelude.{ℕ, ◌+◌, ◌≡◌, cond, not, ◌||◌, List, ◌∷◌, ◌++◌, drop, set, replicate, ltb, leb, eqb}
+use Rattle.entry.specs.Refusal.{refusal_number}
 use Rattle.entry.specs.Entry.{bad_time}
 use Rattle.peers.specs.declared.Row.{Row}
 use Rattle.peers.specs.declared.PeerTable.{PeerTable}
+use Rattle.peers.specs.declared.Changed.{Changed}
 use Rattle.peers.specs.Row.{new_row, heard_row, reported_row, tick_row}
 use Rattle.peers.specs.Table.{rows_of, has_row, held_incarnation, on_row, on_others, is_own, sound_table}
 
--- the table after an event: the one it gives, or after a refusal the one that came in (R29, R229)
-abbrev pub table_after : PeerTable → Result PeerTable Refusal → PeerTable
-table_after t (Ok u) = u
-table_after t (Err r) = t
-
--- what an event on table t gives: table u after it, and an answer with this number (R197, R229)
-pub record Gives (c : Result PeerTable Refusal) (t u : PeerTable) (n : ℕ) : Type 0 where
-  pub table : table_after t c ≡ u
-  pub answer : refusal_number c ≡ n
+-- what an event hands back: this table, and an answer with this number (R197, R229)
+pub record Gives (c : Changed) (t : PeerTable) (n : ℕ) : Type 0 where
+  pub table : c.table ≡ t
+  pub answer : refusal_number c.answer ≡ n
 
 -- a refusal hands back the table that came in (R29)
 unfoldable pub unless_refused : ℕ → PeerTable → PeerTable → PeerTable

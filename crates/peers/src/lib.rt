@@ -3,11 +3,11 @@
 #![tactic(auto)]
 
 ghost use Rattle.std.specs.Prelude.{◌≡◌, ◌==◌, Some, position, IfOk};
-ghost use Rattle.entry.specs.Acceptance.{refusal_number};
-ghost use Rattle.peers.specs.Row.{in_range, new_row, heard_row, reported_row, tick_row};
+ghost use Rattle.entry.specs.Refusal.{number, refusal_number};
+ghost use Rattle.peers.specs.Row.{age_at, in_range, new_row, heard_row, reported_row, tick_row};
 ghost use Rattle.peers.specs.Table.{rows_of, has_row, sound_table, rows_in_range, distinct, on_others};
 ghost use Rattle.peers.specs.Admitted.{admits_row, admitted_flags};
-ghost use Rattle.peers.specs.Event.{Gives, with_rows, empty_table, fresh_answer, after_fresh, add_answer, after_add};
+ghost use Rattle.peers.specs.Event.{Gives, with_rows, fresh_answer, after_fresh, add_answer, after_add};
 ghost use Rattle.peers.specs.Event.{heard_answer, after_heard, reported_answer, after_reported, tick_answer, after_tick};
 
 use entry::{Refusal, TIME_LIMIT};
@@ -44,6 +44,14 @@ pub struct PeerTable {
     pub count: u8,
 }
 
+// The table after an event, and the event's answer. A refused event hands back the table that came
+// in.
+#[derive(Clone, Copy, Debug, PartialEq, Eq)]
+pub struct Changed {
+    pub table: PeerTable,
+    pub answer: Result<(), Refusal>,
+}
+
 // Which peers the owner walk may take: every peer with a row, or those not DOWN.
 #[derive(Clone, Copy, Debug, PartialEq, Eq)]
 pub enum Admission {
@@ -53,6 +61,14 @@ pub enum Admission {
 
 // A flag for each id.
 pub type Flags = [bool; 256];
+
+// How long ago `seen` was, 0 if `now` is earlier.
+#[tactic(auto, unfolding(crate::specs::Row::age_at))]
+fn age(seen: u64, now: u64) -> u64
+    ensures { result ≡ age_at seen now }
+{
+    now.saturating_sub(seen)
+}
 
 impl Row {
     // A row past the last.
@@ -111,11 +127,11 @@ impl Row {
         self
     }
 
-    #[tactic(auto, unfolding(crate::specs::Row::tick_row, crate::specs::Row::tick_state, crate::specs::Row::age_at))]
+    #[tactic(auto, unfolding(crate::specs::Row::tick_row, crate::specs::Row::tick_state))]
     fn ticked(mut self, now: u64) -> Row
         ensures { result ≡ tick_row now self }
     {
-        let age = now.saturating_sub(self.last_seen);
+        let age = age(self.last_seen, now);
         if DOWN_AGE <= age {
             self.state = DOWN;
             return self;
@@ -146,6 +162,24 @@ fn has_id(rows: &[Row], id: u8) -> bool
 }
 
 impl PeerTable {
+    fn refused(self, why: Refusal) -> Changed
+        ensures { Gives result self (number why) }
+    {
+        Changed {
+            table: self,
+            answer: Err(why),
+        }
+    }
+
+    fn done(self) -> Changed
+        ensures { Gives result self 0 }
+    {
+        Changed {
+            table: self,
+            answer: Ok(()),
+        }
+    }
+
     // The table's rows: all ten if its count is over 10.
     fn listed(&self) -> &[Row]
         ensures { result.now ≡ rows_of self.now }
@@ -189,52 +223,42 @@ impl PeerTable {
         self.ids_are_distinct() && self.rows[0].state == ALIVE && self.rows_are_in_range()
     }
 
-    // A table with the own row alone. A row's fields are given one by one, here and in `add`: a
-    // `Row` has a state and a time last seen too, which are not given.
+    // A table with the own row alone; a table with no row if it is refused. A row's fields are given
+    // one by one, here and in `add`: a `Row` has a state and a time last seen too, which are not
+    // given.
     #[tactic(auto, unfolding(crate::specs::Event::after_fresh, crate::specs::Event::fresh_table, crate::specs::Event::fresh_answer, crate::specs::Event::unless_refused))]
-    pub fn fresh(
-        id: u8,
-        address: u32,
-        port: u16,
-        incarnation: u32,
-        now: u64,
-    ) -> Result<PeerTable, Refusal>
-        ensures { Gives result empty_table (after_fresh id address port incarnation now) (fresh_answer now) }
+    pub fn fresh(id: u8, address: u32, port: u16, incarnation: u32, now: u64) -> Changed
+        ensures { Gives result (after_fresh id address port incarnation now) (fresh_answer now) }
     {
-        if TIME_LIMIT <= now {
-            return Err(Refusal::BadTime);
-        }
         let mut rows = [Row::NONE; 10];
+        if TIME_LIMIT <= now {
+            let empty = PeerTable { rows, count: 0 };
+            return empty.refused(Refusal::BadTime);
+        }
         rows[0] = Row::new(id, address, port, incarnation, now);
-        Ok(PeerTable { rows, count: 1 })
+        let table = PeerTable { rows, count: 1 };
+        table.done()
     }
 
     #[tactic(auto, unfolding(crate::specs::Event::after_add, crate::specs::Event::added_table, crate::specs::Event::add_answer, crate::specs::Event::unless_refused))]
-    pub fn add(
-        mut self,
-        id: u8,
-        address: u32,
-        port: u16,
-        incarnation: u32,
-        now: u64,
-    ) -> Result<PeerTable, Refusal>
-        ensures { Gives result self (after_add id address port incarnation now self) (add_answer id now self) }
+    pub fn add(mut self, id: u8, address: u32, port: u16, incarnation: u32, now: u64) -> Changed
+        ensures { Gives result (after_add id address port incarnation now self) (add_answer id now self) }
     {
         if TIME_LIMIT <= now {
-            return Err(Refusal::BadTime);
+            return self.refused(Refusal::BadTime);
         }
         if !self.is_sound() {
-            return Err(Refusal::BadArgument);
+            return self.refused(Refusal::BadArgument);
         }
         if has_id(self.listed(), id) {
-            return Err(Refusal::PeerKnown);
+            return self.refused(Refusal::PeerKnown);
         }
         if MAX_ROWS <= self.count {
-            return Err(Refusal::TableFull);
+            return self.refused(Refusal::TableFull);
         }
         self.rows[usize::from(self.count)] = Row::new(id, address, port, incarnation, now);
         self.count += 1;
-        Ok(self)
+        self.done()
     }
 
     // The checks of an event about a peer with a row: 9, 17, 15, 11 and 12. Where that row stands.
@@ -262,28 +286,30 @@ impl PeerTable {
     }
 
     // A peer was heard directly.
-    pub fn heard(mut self, id: u8, incarnation: u32, now: u64) -> Result<PeerTable, Refusal>
-        ensures { Gives result self (after_heard id incarnation now self) (heard_answer id incarnation now self) }
+    pub fn heard(mut self, id: u8, incarnation: u32, now: u64) -> Changed
+        ensures { Gives result (after_heard id incarnation now self) (heard_answer id incarnation now self) }
     {
-        let at = self.judge(id, ALIVE, incarnation, now)?;
-        self.rows[at] = self.rows[at].heard(incarnation, now);
-        Ok(self)
+        match self.judge(id, ALIVE, incarnation, now) {
+            Err(why) => self.refused(why),
+            Ok(at) => {
+                self.rows[at] = self.rows[at].heard(incarnation, now);
+                self.done()
+            }
+        }
     }
 
     // Another peer reported a peer's state. This and `heard` differ in one call: one function for
     // both would take it as a closure with its clause, so it is no plainer.
-    pub fn reported(
-        mut self,
-        id: u8,
-        state: u8,
-        incarnation: u32,
-        now: u64,
-    ) -> Result<PeerTable, Refusal>
-        ensures { Gives result self (after_reported id state incarnation now self) (reported_answer id state incarnation now self) }
+    pub fn reported(mut self, id: u8, state: u8, incarnation: u32, now: u64) -> Changed
+        ensures { Gives result (after_reported id state incarnation now self) (reported_answer id state incarnation now self) }
     {
-        let at = self.judge(id, state, incarnation, now)?;
-        self.rows[at] = self.rows[at].reported(state, incarnation, now);
-        Ok(self)
+        match self.judge(id, state, incarnation, now) {
+            Err(why) => self.refused(why),
+            Ok(at) => {
+                self.rows[at] = self.rows[at].reported(state, incarnation, now);
+                self.done()
+            }
+        }
     }
 
     // Every row but the own, ticked.
@@ -298,16 +324,16 @@ impl PeerTable {
 
     // Time has passed.
     #[tactic(auto, unfolding(crate::specs::Event::after_tick, crate::specs::Event::tick_answer, crate::specs::Event::unless_refused))]
-    pub fn tick(self, now: u64) -> Result<PeerTable, Refusal>
-        ensures { Gives result self (after_tick now self) (tick_answer now self) }
+    pub fn tick(self, now: u64) -> Changed
+        ensures { Gives result (after_tick now self) (tick_answer now self) }
     {
         if TIME_LIMIT <= now {
-            return Err(Refusal::BadTime);
+            return self.refused(Refusal::BadTime);
         }
         if !self.is_sound() {
-            return Err(Refusal::BadArgument);
+            return self.refused(Refusal::BadArgument);
         }
-        Ok(self.ticked(now))
+        self.ticked(now).done()
     }
 
     // For each id, whether it is admitted.

@@ -7,7 +7,8 @@ use native.Mathlib.Omega.{arith}
 use lib.ListN.{length, take, drop, length-drop}
 use lib.Seq.{take_all, take-add}
 use borrow.Author.Tests.{eqb-true, eq-eqb}
-use Rattle.std.specs.Prelude.{Option, Some, None}
+use Rattle.std.specs.declared.ops.ControlFlow.{ControlFlow}
+use Rattle.std.specs.declared.ops.ControlFlow.TheVariants.{Continue, Break}
 use Rattle.wire.specs.Fill.{field}
 use Rattle.wire.proofs.Tests.{clash}
 use Rattle.wire.proofs.Fill.{length-field}
@@ -25,7 +26,7 @@ use Rattle.replayer.specs.Meaning.{Stream, Call, after_call, is_stop, called, ca
 use Rattle.replayer.proofs.Calls.{calls_stay_within, reads_for_a_record}
 use Rattle.replayer.proofs.Feeding.{fed_more, drained_more, drained_none}
 use Rattle.replay.specs.declared.State.{State}
-use Rattle.replay.specs.State.{Fits, History, one_more, Stands, StandsAfter, Refilled, past_call, CanGoOn, GoesOn, FitsAfter, TurnIsOneCall}
+use Rattle.replay.specs.State.{Fits, History, one_more, Stands, StandsAfter, Refilled, past_call, CanGoOn, GoesOn, state_of, TurnIsOneCall}
 
 -- what is left of a part once its first bytes are taken
 part_left : (a n t : ℕ) (b : List ℕ) → t ≤ n → a + n ≤ length b → drop t (field a n b) ≡ field (a + t) (n - t) b
@@ -114,7 +115,7 @@ module _ (store reply input output : List ℕ) (s : State) (f : Fits input outpu
   fits_past os = record { within = omega (arith, taken_within, f.within); inputs = f.inputs; outputs = os ∙ f.outputs }
 
   -- where the program stands once the call is made
-  module _ (h : History) (w : StandsAfter h store reply input (Some s)) where
+  module _ (h : History) (w : StandsAfter h store reply input (Continue s)) where
     after : Stream
     after = record {
       kept = record { store = store'; clock = p.clock; reply = reply' };
@@ -181,38 +182,40 @@ module _ (store reply input output : List ℕ) (s : State) (f : Fits input outpu
             no_more_read = λ e. ap (λ (a : ℕ). take a (drop k input')) (eqb-true (r.rest.len - k) 0 (sym q.ended_is ∙ e));
           }
 
-    stands_on : (n : Next) → p.next ≡ n → (r : Option State) (input' : List ℕ) → GoesOn n input s p r input'
+    stands_on : (n : Next) → p.next ≡ n → (r : ControlFlow State State) (input' : List ℕ) → GoesOn n input s p r input'
         → (more : List ℕ) × StandsAfter (one_more s.ended h more) store' reply' input' r
     unfolding past
-    stands_on Read e (Some r) input' q = (more e r input' q, (stands_filled e r input' q, next_is (more e r input' q) ∙ ap is_stop e))
-    stands_on Read e None input' q = elim q [ ]
+    stands_on Read e (Continue r) input' q = (more e r input' q, (stands_filled e r input' q, next_is (more e r input' q) ∙ ap is_stop e))
+    stands_on Read e (Break r) input' q = elim q [ ]
     stands_on Write e r input' q = ([], rw (q.0, q.1) (stands_past, next_is [] ∙ ap is_stop e))
-    stands_on Stop e r input' q = ([], rw (q.0, q.1) (past, stands_past))
+    stands_on Stop e r input' q = ([], rw (q.0, q.1) stands_past)
 
   -- ---- what a turn ensures
-  fits_on : (n : Next) → (r : Option State) (input' : List ℕ) → GoesOn n input s p r input' → length input' ≡ length input → length output' ≡
-      length output
-      → FitsAfter input' output' r
+  fits_on : (n : Next) → (r : ControlFlow State State) (input' : List ℕ) → GoesOn n input s p r input' → length input' ≡ length input
+      → length output' ≡ length output → Fits input' output' (state_of r)
   unfolding past
-  fits_on Read (Some r) input' q is os =
+  fits_on Read (Continue r) input' q is os =
       record { within = omega (arith, q.at_is, q.within); inputs = is ∙ f.inputs; outputs = os ∙ f.outputs }
-  fits_on Read None input' q is os = elim q [ ]
+  fits_on Read (Break r) input' q is os = elim q [ ]
   fits_on Write r input' q is os = rw (q.0, q.1) (fits_past os)
-  fits_on Stop r input' q is os = rw q.0 tt
+  fits_on Stop r input' q is os = rw (q.0, q.1) (fits_past os)
 
-  pub turn_goes_on : (r : Option State) (input' : List ℕ) → GoesOn p.next input s p r input' → length input' ≡ length input
-      → length output' ≡ length output → FitsAfter input' output' r × TurnIsOneCall store reply input s store' reply' input' r
+  pub turn_goes_on : (r : ControlFlow State State) (input' : List ℕ) → GoesOn p.next input s p r input' → length input' ≡ length input
+      → length output' ≡ length output → Fits input' output' (state_of r) × TurnIsOneCall store reply input s store' reply' input' r
   turn_goes_on r input' q is os = (fits_on p.next r input' q is os, λ h w. stands_on h w p.next refl r input' q)
 
-  pub turn_stops : TurnIsOneCall store reply input s store' reply' input None
-  turn_stops h w = ([], (past, stands_past h w))
+  -- a write that failed ends it past the call
+  pub turn_stops : (r : State) → r ≡ past_call s p → length output' ≡ length output
+      → Fits input output' r × TurnIsOneCall store reply input s store' reply' input (Break r)
+  unfolding past
+  turn_stops r e os = (rw e (fits_past os), λ h w. ([], rw e (stands_past h w)))
 
 -- at the start no call has been made, and nothing has come
 abbrev pub nothing : History
 nothing = record { calls = []; rooms = []; came = [] }
 
 pub stands_first : (store reply input : List ℕ) (c : Clock) → store ≡ start.store → reply ≡ start.reply → c ≡ fresh_clock 1
-    → StandsAfter nothing store reply input (Some (record { clock = c; rest = record { at = 0; len = 0 }; ended = false }))
+    → StandsAfter nothing store reply input (Continue (record { clock = c; rest = record { at = 0; len = 0 }; ended = false }))
 unfolding drained fed called_all start field
 stands_first store reply input c hs hr hc = (
   record {
@@ -225,12 +228,13 @@ stands_first store reply input c hs hr hc = (
 )
 
 -- there is a history that has led there
-pub record Reached (store reply input : List ℕ) (s : Option State) : Type 0 where
+pub record Reached (store reply input : List ℕ) (s : ControlFlow State State) : Type 0 where
   pub history : History
   pub stands : StandsAfter history store reply input s
 
 -- as far as a turn leads
-pub reached_on : (store reply input : List ℕ) (s : State) (store' reply' input' : List ℕ) (r : Option State) → Reached store reply input (Some s)
+pub reached_on : (store reply input : List ℕ) (s : State) (store' reply' input' : List ℕ) (r : ControlFlow State State)
+    → Reached store reply input (Continue s)
     → TurnIsOneCall store reply input s store' reply' input' r → Reached store' reply' input' r
 reached_on store reply input s store' reply' input' r h t = record { history = _; stands = (t h.history h.stands).1 }
 

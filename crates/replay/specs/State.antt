@@ -1,5 +1,7 @@
 -- What holds of the replay program from turn to turn.
-use Rattle.std.specs.Prelude.{ℕ, ◌+◌, ◌-◌, ◌≤◌, ◌<◌, ◌≡◌, Bool, true, false, cond, List, [], ◌∷◌, ◌++◌, length, take, eqb, Option, Some, None}
+use Rattle.std.specs.Prelude.{ℕ, ◌+◌, ◌-◌, ◌≤◌, ◌<◌, ◌≡◌, Bool, true, false, cond, List, [], ◌∷◌, ◌++◌, length, take, eqb}
+use Rattle.std.specs.declared.ops.ControlFlow.{ControlFlow}
+use Rattle.std.specs.declared.ops.ControlFlow.TheVariants.{Continue, Break}
 use Rattle.wire.specs.Fill.{field}
 use Rattle.replayer.specs.declared.Next.{Next}
 use Rattle.replayer.specs.declared.Next.TheVariants.{Read, Write, Stop}
@@ -13,10 +15,10 @@ pub record Fits (input output : List ℕ) (s : State) : Type 0 where
   pub inputs : length input ≡ 65536
   pub outputs : length output ≡ 65536
 
--- after a turn, unless the program has ended
-abbrev pub FitsAfter : List ℕ → List ℕ → Option State → Type 0
-FitsAfter input output (Some s) = Fits input output s
-FitsAfter input output None = Unit {0}
+-- the state that a turn leaves, whether the program goes on from it or has ended in it
+abbrev pub state_of : ControlFlow State State → State
+state_of (Continue s) = s
+state_of (Break s) = s
 
 -- what has happened: the calls while the input came, the outputs of those since it ended, and the
 -- bytes that came since the last call
@@ -40,14 +42,14 @@ pub record Stands (h : History) (store reply input : List ℕ) (s : State) : Typ
   pub open_ended : s.ended ≡ false → h.rooms ≡ []
   pub no_more_read : s.ended ≡ true → h.came ≡ []
 
--- and goes on from a state, or has ended in one
-abbrev pub StandsAfter : History → List ℕ → List ℕ → List ℕ → Option State → Type 0
-StandsAfter h store reply input (Some s) = Stands h store reply input s × (is_stop (drained h.calls h.rooms).next ≡ false)
-StandsAfter h store reply input None = (s : State) × Stands h store reply input s
+-- and goes on from that state, which the calls have not stopped, or has ended in it
+abbrev pub StandsAfter : History → List ℕ → List ℕ → List ℕ → ControlFlow State State → Type 0
+StandsAfter h store reply input (Continue s) = Stands h store reply input s × (is_stop (drained h.calls h.rooms).next ≡ false)
+StandsAfter h store reply input (Break s) = Stands h store reply input s
 
 -- a turn is one call, and reading what more came (R164)
-abbrev pub TurnIsOneCall : List ℕ → List ℕ → List ℕ → State → List ℕ → List ℕ → List ℕ → Option State → Type 0
-TurnIsOneCall store reply input s store' reply' input' r = (h : History) → StandsAfter h store reply input (Some s)
+abbrev pub TurnIsOneCall : List ℕ → List ℕ → List ℕ → State → List ℕ → List ℕ → List ℕ → ControlFlow State State → Type 0
+TurnIsOneCall store reply input s store' reply' input' r = (h : History) → StandsAfter h store reply input (Continue s)
     → (more : List ℕ) × StandsAfter (one_more s.ended h more) store' reply' input' r
 
 -- the bytes that are left of a state s stand at the front, with those behind them that came; none
@@ -73,8 +75,8 @@ pub record CanGoOn (input : List ℕ) (s : State) (p : Progress) : Type 0 where
 
 -- what a call asks for is done: more is read, or the rest is left for the next call, or the replay
 -- stops
-abbrev pub GoesOn : Next → List ℕ → State → Progress → Option State → List ℕ → Type 0
-GoesOn Read input s p (Some r) input' = Refilled input (past_call s p) r input'
-GoesOn Read input s p None input' = ⊥
-GoesOn Write input s p r input' = (r ≡ Some (past_call s p)) × (input' ≡ input)
-GoesOn Stop input s p r input' = (r ≡ None) × (input' ≡ input)
+abbrev pub GoesOn : Next → List ℕ → State → Progress → ControlFlow State State → List ℕ → Type 0
+GoesOn Read input s p (Continue r) input' = Refilled input (past_call s p) r input'
+GoesOn Read input s p (Break r) input' = ⊥
+GoesOn Write input s p r input' = (r ≡ Continue (past_call s p)) × (input' ≡ input)
+GoesOn Stop input s p r input' = (r ≡ Break (past_call s p)) × (input' ≡ input)

@@ -6,12 +6,13 @@
 ghost use Rattle.std.specs.Prelude.{◌+◌, ◌≤◌, ◌<◌, ◌≡◌, ◌++◌, length, take, drop};
 ghost use Rattle.wire.specs.Fill.{field};
 ghost use Rattle.replayer.specs.Replies.{start};
-ghost use Rattle.replay.specs.State.{Fits, Refilled, past_call, CanGoOn, GoesOn, FitsAfter, TurnIsOneCall};
+ghost use Rattle.replay.specs.State.{Fits, Refilled, past_call, CanGoOn, GoesOn, state_of, TurnIsOneCall};
 
 use clock::Clock;
 use image::layout::MAX_SLOTS;
 use replayer::{Next, Progress, advance};
 use std::io::{Read, Write};
+use std::ops::ControlFlow;
 use wire::Span;
 
 // The input bytes of `rest` are not yet taken. `ended` says that no more follow.
@@ -73,21 +74,21 @@ fn past(state: State, progress: Progress) -> State
     }
 }
 
-// Does what a call asks for once its replies are written. Where the replay stops, no state is left.
+// Does what a call asks for once its replies are written.
 fn go_on<R: Read>(
     reader: &mut R,
     input: &mut [u8],
     state: State,
     progress: Progress,
-) -> Option<State>
+) -> ControlFlow<State, State>
     requires { CanGoOn input.old state progress }
     ensures { GoesOn progress.next input.old state progress result input.new }
 {
     let next = past(state, progress);
     match progress.next {
-        Next::Read => Some(refill(reader, input, next)),
-        Next::Write => Some(next),
-        Next::Stop => None,
+        Next::Read => ControlFlow::Continue(refill(reader, input, next)),
+        Next::Write => ControlFlow::Continue(next),
+        Next::Stop => ControlFlow::Break(next),
     }
 }
 
@@ -102,9 +103,9 @@ fn turn<R: Read, W: Write>(
     input: &mut [u8],
     output: &mut [u8],
     state: State,
-) -> Option<State>
+) -> ControlFlow<State, State>
     requires { Fits input.old output.old state }
-    ensures within { FitsAfter input.new output.new result }
+    ensures within { Fits input.new output.new (state_of result) }
     ensures called { TurnIsOneCall
         store.old reply.old input.old state
         store.new reply.new input.new result }
@@ -113,7 +114,7 @@ fn turn<R: Read, W: Write>(
     let progress = advance(store, state.clock, came, state.ended, reply, output);
     let written = writer.write_all(&output[..progress.filled]);
     if written.is_err() {
-        return None;
+        return ControlFlow::Break(past(state, progress));
     }
     go_on(reader, input, state, progress)
 }
@@ -132,7 +133,7 @@ fn run<R: Read, W: Write>(reader: &mut R, writer: &mut W, store: &mut [u8], repl
     };
     for _ in 0..u64::MAX {
         let next = turn(reader, writer, store, reply, &mut input, &mut output, state);
-        let Some(next) = next else {
+        let ControlFlow::Continue(next) = next else {
             break;
         };
         state = next;

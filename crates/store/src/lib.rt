@@ -6,7 +6,7 @@ mod clear;
 mod write;
 
 ghost use Rattle.std.specs.Prelude.{◌≡◌, true, false, length, MatchResult};
-ghost use Rattle.entry.specs.Acceptance.{refusal_number};
+ghost use Rattle.entry.specs.Refusal.{refusal_number};
 ghost use Rattle.entry.specs.Entry.{entry_in};
 ghost use Rattle.image.specs.Layout.{slot_width};
 ghost use Rattle.image.specs.Image.{slot_entry, line_of, entries_of, sound};

@@ -64,6 +64,18 @@ field_min i at k w s h g =
     let r : take (length s - i) (drop i s) ≡ drop at s = take_all (length s - i) (drop i s) (omega (arith, length-drop i s)) ∙ drop_min i at s h in
     ap (take k) r ∙ take_min k w (drop at s) (g ∙ ap (λ (t : List ℕ). min w (length t)) r ∙ omega arith)
 
+-- all that is left, where that is less
+pub field_left : (i at w : ℕ) (s : List ℕ) → i ≡ min at (length s) → length (take (length s - i) (drop i s)) < w → take (length s - i) (drop i s) ≡ field at w s
+unfolding field
+field_left i at w s h g =
+    let r : take (length s - i) (drop i s) ≡ drop at s = take_all (length s - i) (drop i s) (omega (arith, length-drop i s)) ∙ drop_min i at s h in
+    r ∙ sym (take_all w (drop at s) (omega (arith, g, ap (λ (t : List ℕ). length t) r)))
+
+-- a field is no longer than its width
+pub field_whole : (at w : ℕ) (s : List ℕ) → take w (field at w s) ≡ field at w s
+unfolding field
+field_whole at w s = take_all w (take w (drop at s)) (omega (arith, length-take w (drop at s)))
+
 pub padded_min : (n w : ℕ) (s : List ℕ) → n ≡ min (length s) w → take n s ++ zeros (w - n) ≡ padded w s
 unfolding padded
 padded_min n w s h =

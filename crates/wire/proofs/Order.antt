@@ -1,5 +1,5 @@
 -- Laws of the order of byte strings, a strict total order, and of the turns of a comparison.
-use Prim.Native.Nat.{ℕ, ◌<◌}
+use Prim.Native.Nat.{ℕ, zero, suc, ◌<◌}
 use native.Mathlib.Omega.{arith}
 use mathlib.Core.Path.{◌≡◌, refl, sym, ap, ◌∙◌, ap₂}
 use mathlib.Core.Logic.{◌⊎◌, inl, inr}
@@ -8,11 +8,12 @@ use mathlib.Core.List.{List, [], ◌∷◌, ◌++◌}
 use lib.Pointwise.{pointwise}
 use Rattle.std.specs.List as library
 use Rattle.std.specs.Ordering.{nat_cmp}
-use lib.ListN.{length, take}
+use lib.ListN.{length, take, drop, get_or}
+use lib.Seq.{take_all}
 use Rattle.std.specs.Cmp.Lexicographic.{slice_cmp}
 use lib.Dec.{ltb, eqb}
 use borrow.Author.Tests.{ltb-true, ltb-false, eqb-true, eqb-false, lt-ltb, le-ltb, eq-eqb, ne_eqb}
-use Rattle.wire.proofs.Tests.{test, clash}
+use Rattle.wire.proofs.Tests.{test, clash, false_of}
 use Rattle.wire.specs.Order.{same_bytes, bytes_below, comparison, starts_with}
 use Rattle.wire.specs.Meaning.{ProperPrefix, FirstLess, BytesBelowExactly}
 
@@ -164,6 +165,16 @@ bytes_below_exactly a b = (below_by a b, below)
     below (inl p) = rw p.longer (prefix_below a p.next p.rest)
     below (inr p) = rw (p.first, p.second) (lesser_below p.front p.less p.more p.less_rest p.more_rest p.differ)
 
+-- a prefix is no longer than what begins with it
+pub too_short : (p s : List ℕ) → length s < length p → false ≡ starts_with p s
+unfolding starts_with
+too_short p s h =
+    let differ : same_bytes p s ≡ false = false_of (same_bytes p s) (λ e. no (length s) (length p) h (ap length (same_bytes_eq p s e))) in
+    sym (ap (same_bytes p) (take_all (length p) s (omega arith)) ∙ differ)
+  where
+    no : (m n : ℕ) → m < n → n ≡ m → ⊥
+    no m n h e = omega arith
+
 -- ---- the library's answers
 pub pointwise_same : (a b : List ℕ) → pointwise eqb a b ≡ same_bytes a b
 unfolding same_bytes
@@ -185,3 +196,19 @@ slice_cmp_comparison (a ∷ r) (b ∷ s) = elim (test (ltb a b)) [
   | inl p ↦ rw p
   | inr p ↦ elim (test (eqb a b)) [ inl q ↦ rw (p, q) (slice_cmp_comparison r s) | inr q ↦ rw (p, q) ]
 ]
+
+-- behind bytes that are the same, two that are not decide
+pub differ_at : (i : ℕ) (a b : List ℕ) → take i a ≡ take i b → i < length a → i < length b → (get_or a i 0 ≡ get_or b i 0 → ⊥)
+    → nat_cmp (get_or a i 0) (get_or b i 0) ≡ comparison a b
+unfolding comparison bytes_below same_bytes
+differ_at zero [] b e h k n = absurd (omega (arith, h))
+differ_at zero (x ∷ r) [] e h k n = absurd (omega (arith, k))
+differ_at zero (x ∷ r) (y ∷ s) e h k n = elim (test (ltb x y)) [
+  | inl p ↦ rw p
+  | inr p ↦ elim (test (eqb x y)) [ inl q ↦ absurd (n (eqb-true x y q)) | inr q ↦ rw (p, q) ]
+]
+differ_at (suc i) [] b e h k n = absurd (omega (arith, h))
+differ_at (suc i) (x ∷ r) [] e h k n = absurd (omega (arith, k))
+differ_at (suc i) (x ∷ r) (y ∷ s) e h k n =
+    let g : x ≡ y = ap (λ (l : List ℕ). get_or l 0 0) e in
+    rw (le-ltb x y (omega arith), eq-eqb x y g) (differ_at i r s (ap (drop 1) e) (omega (arith, h)) (omega (arith, k)) n)

@@ -26,12 +26,15 @@ impl Span {
 }
 
 // The `len` bytes of `s` from `at` on, as much of them as there is.
-#[tactic(auto, using(crate::proofs::Fill::field_min))]
 pub fn part(s: &[u8], at: usize, len: usize) -> &[u8]
     ensures { result.now ≡ field at len s.now }
 {
     let rest = &s[at.min(s.len())..];
-    &rest[..len.min(rest.len())]
+    // a test, and no `min`: a part that is all there has a length that the caller knows
+    if rest.len() < len {
+        return rest;
+    }
+    &rest[..len]
 }
 
 // Fills `out` with `n`, the highest byte first.
@@ -62,7 +65,12 @@ pub fn number_at(s: &[u8], at: usize, width: usize) -> u64
     ensures is { result ≡ num (field at (min width 8) s.now) }
     ensures fits { result < 256 ^ min width 8 }
 {
-    get_be(part(s, at, width))
+    let cut = part(s, at, width);
+    if cut.len() < width {
+        return get_be(cut);
+    }
+    // a width that stands in the call is then the length that is read
+    get_be(&cut[..width])
 }
 
 // Fills `out` with what of `s` it has room for, and zeros after it.
@@ -112,10 +120,17 @@ pub fn same(a: &[u8], b: &[u8]) -> bool
 }
 
 // Where `a` stands against `b`, by bytes, a prefix before the longer string.
-#[tactic(auto, using(crate::proofs::Order::slice_cmp_comparison))]
+// Most keys differ in their first bytes: to find that a byte a turn costs less than the library's
+// strides, which the rest is compared by.
+#[inline(always)]
 pub fn compare(a: &[u8], b: &[u8]) -> Ordering
     ensures { result ≡ comparison a.now b.now }
 {
+    for i in 0..a.len().min(b.len()).min(8) {
+        if a[i] != b[i] {
+            return a[i].cmp(&b[i]);
+        }
+    }
     a.cmp(b)
 }
 

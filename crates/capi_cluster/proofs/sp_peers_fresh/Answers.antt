@@ -1,4 +1,5 @@
 use Rattle.std.proofs.Common.{arith, sym}
+use mathlib.Core.Path.{◌≡◌}
 use Rattle.peers.specs.Event.{fresh_answer, after_fresh}
 use Rattle.capi_cluster.specs.Words.{table_words}
 use Rattle.capi_words.proofs.Fronts.{front_refused, front_no_room}
@@ -9,13 +10,13 @@ pub returns-in-Err : goal.returns-in-Err
 returns-in-Err c =
     let a = c.args in
     let table = after_fresh a.id a.address a.port a.incarnation a.time in
-    let p = front_refused (fresh_answer a.time) (table_words table) a.table.now _ c.in-Err.why c.in-Err.ensures.answer c.refused.ensures in
+    let p = front_refused (fresh_answer a.time) (table_words table) a.table.now _ c.in-Err.why ((rw (c.in-Err.is) at c.fresh-made.ensures.answer)) c.refused.ensures in
     record { told = p.told; left = p.left }
 
 pub returns-then-table-lt-TABLE_WORDS : goal.returns-then-table-lt-TABLE_WORDS
 returns-then-table-lt-TABLE_WORDS c =
     let a = c.args in
-    let z = sym c.in-Ok.ensures.answer in
+    let z : fresh_answer a.time ≡ 0 = sym (rw (c.in-Ok.is) at c.fresh-made.ensures.answer) in
     let l = fresh_long a.id a.address a.port a.incarnation a.time z in
     let table = after_fresh a.id a.address a.port a.incarnation a.time in
     let p = front_no_room (fresh_answer a.time) (table_words table) a.table.now _ z
@@ -25,6 +26,7 @@ returns-then-table-lt-TABLE_WORDS c =
 pub returns-else-table-lt-TABLE_WORDS : goal.returns-else-table-lt-TABLE_WORDS
 returns-else-table-lt-TABLE_WORDS c =
     let a = c.args in
-    let p = fresh-put a.id a.address a.port a.incarnation a.time a.table.now _ c.in-Ok.fresh c.in-Ok.ensures c.if-table-lt-TABLE_WORDS.false
+    let z : fresh_answer a.time ≡ 0 = sym (rw (c.in-Ok.is) at c.fresh-made.ensures.answer) in
+    let p = fresh-put a.id a.address a.port a.incarnation a.time a.table.now _ _ c.fresh-made.ensures z c.if-table-lt-TABLE_WORDS.false
     c.put_table.ensures in
     record { told = p.told; left = p.left }

@@ -15,6 +15,6 @@ pub loop-preserved : goal.loop-preserved
 loop-preserved g c =
     let l = c.loop in
     record {
-      fits = c.in-Some.ensures.within;
-      reached = reached_on l.store l.reply l.input l.state _ _ _ _ l.invariant.reached c.in-Some.ensures.called;
+      fits = c.in-Continue.ensures.within;
+      reached = reached_on l.store l.reply l.input l.state _ _ _ _ l.invariant.reached c.in-Continue.ensures.called;
     }

@@ -1,4 +1,4 @@
-use Rattle.std.proofs.Common.{arith, ◌≡◌, ◌∙◌, length, length-set}
+use Rattle.std.proofs.Common.{arith, ◌≡◌, length, length-set}
 use Rattle.capi_cluster.proofs.Rows.{write_none, write_row, write_all}
 use Rattle.capi_cluster.proofs.words.put_table.Goals as goal
 
@@ -11,7 +11,7 @@ loop-k-preserved c =
     let t = c.args.table in
     let ten : length t.rows ≡ 10 = omega arith in (
       l.invariant.0,
-      write_row t l.k _ l.out _ (omega arith) (omega arith) l.invariant.1 (c.copy_from_slice.ensures.after ∙ c.row_words.ensures),
+      write_row t l.k _ l.out _ (omega arith) (omega arith) l.invariant.1 c.put_row.ensures,
     )
 
 pub returns : goal.returns
