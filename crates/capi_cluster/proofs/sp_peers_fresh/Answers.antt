@@ -10,7 +10,8 @@ pub returns-in-Err : goal.returns-in-Err
 returns-in-Err c =
     let a = c.args in
     let table = after_fresh a.id a.address a.port a.incarnation a.time in
-    let p = front_refused (fresh_answer a.time) (table_words table) a.table.now _ c.in-Err.why ((rw (c.in-Err.is) at c.fresh-made.ensures.answer)) c.refused.ensures in
+    let e = rw (c.in-Err.is) at c.fresh-made.ensures.answer in
+    let p = front_refused (fresh_answer a.time) (table_words table) a.table.now _ c.in-Err.why e c.refused.ensures in
     record { told = p.told; left = p.left }
 
 pub returns-then-table-lt-TABLE_WORDS : goal.returns-then-table-lt-TABLE_WORDS
